@@ -1,0 +1,67 @@
+-- `bits::octet` meets its contract: one law for each way out, by where n falls.
+-- Assumes nothing.
+use Prim.Native.Nat.{_+_, _/_, _<_}
+use mathlib.Core.Path.{_≡_}
+use native.Mathlib.Omega.{arith}
+use borrow.Author.Needs.{needs}
+use lib.ListN.{getD}
+use Rattle.bits.specs.Bit.{bitAt}
+use Rattle.bits.proofs.BitLaws.{shifted, octet-past, octet-whole, octet-edge}
+use Rattle.bits.proofs.octet.Statement.{statement}
+use Rattle.bits.proofs.octet.Tie as tie
+
+returns : tie.Need-returns
+returns c = let a = c .before .before .args in octet-past (bitAt (a .s .now)) (a .n) (a .q) (c .if1 .taken)
+
+shared-slice-read-join : tie.Need-shared-slice-read-join
+shared-slice-read-join c = search needs
+
+add-byte-or-zero : tie.Need-add-byte-or-zero
+add-byte-or-zero c = search needs
+
+byte-or-zero-requires : tie.Need-byte-or-zero-requires
+byte-or-zero-requires c κs = search needs
+
+join-requires : tie.Need-join-requires
+join-requires c κs = search needs
+
+add-if2 : tie.Need-add-if2
+add-if2 c = search needs
+
+returns-2 : tie.Need-returns-2
+returns-2 c =
+    let a = c .before .before .before .before .before .before .args in
+    let next = c .before .before .byte-or-zero in
+    let fits : getD (a .s .now) (a .q / 8 + 1) 0 < 256 = omega (arith, next .ensures) in
+    let whole : c .before .join .result ≡ shifted (a .s .now) (a .q) = cc in
+    octet-whole (a .s .now) (a .n) (a .q) (c .before .join .result) fits whole (omega arith)
+
+sub-top : tie.Need-sub-top
+sub-top c = search needs
+
+top-requires : tie.Need-top-requires
+top-requires c κs = search needs
+
+returns-3 : tie.Need-returns-3
+returns-3 c =
+    let a = c .before .before .before .before .before .before .before .args in
+    let next = c .before .before .before .byte-or-zero in
+    let x = c .before .before .join .result in
+    let fits : getD (a .s .now) (a .q / 8 + 1) 0 < 256 = omega (arith, next .ensures) in
+    let whole : x ≡ shifted (a .s .now) (a .q) = cc in
+    octet-edge (a .s .now) (a .n) (a .q) x (c .top .result) fits whole (omega arith) (c .top .ensures) (omega arith) (omega arith)
+
+pub octet-spec : {M : Type 1} → statement M
+octet-spec =
+    tie.close
+    (tie.spec
+    returns
+    shared-slice-read-join
+    add-byte-or-zero
+    byte-or-zero-requires
+    join-requires
+    add-if2
+    returns-2
+    sub-top
+    top-requires
+    returns-3)

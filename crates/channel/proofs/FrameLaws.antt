@@ -1,0 +1,261 @@
+-- One kind at most stands at a place; the frame that is due there, computed; the eight kinds have what the laws of a reading ask.
+-- Assumes nothing.
+use mathlib.Core.Path.{_≡_, refl, sym, _∙_, ap, subst}
+use mathlib.Core.Bool.{Bool, true, false, not, _&&_, cond}
+use mathlib.Core.List.{List, [], _∷_}
+use mathlib.Core.Option.{Option, none, some}
+use Prim.Native.Nat.{ℕ, zero, suc, _+_, _-_, _≤_, _<_}
+use native.Mathlib.Omega.{arith}
+use lib.Dec.{leb, ltb, eqb}
+use borrow.Author.Tests.{leb-true, eqb-true, not-true, le-leb}
+use Rattle.reading.specs.Reading.{Sound}
+use Rattle.channel.specs.declared.Direction.{Direction}
+use Rattle.channel.specs.declared.Pattern.{Pattern}
+use Rattle.channel.specs.declared.Pattern.the-variants.{Hr, Low, P670, P740}
+use Rattle.channel.specs.declared.Kind.{Kind}
+use Rattle.channel.specs.declared.Kind.the-variants.{Speech, Data, Om, Configuration, NoSpeech, Lower, Amr670, Amr740}
+use Rattle.channel.specs.Kinds.{kinds, kindNo, patternOf, bodyOf, leastTail}
+use Rattle.channel.specs.Coding.{Word, wordAt, fixed, c1to3, c4to5, hrCoded, coded, isBody}
+use Rattle.channel.specs.Verdict.{verdictOf, starts, follows, allowed, afterOf}
+use Rattle.channel.specs.Frames.{Capture, Frame, Tail, Stands, Due, rules}
+use Rattle.channel.proofs.BoolLaws.{ands, and-both, zero-at, one-at}
+use Rattle.channel.proofs.TailLaws.{tailOf, tail-whole, tail-one}
+
+-- the only pattern whose fixed bits can hold, by three bits
+abbrev pub onlyPattern : Word → Pattern
+onlyPattern g = cond (g 2) P740 (cond (g 16) (cond (g 24) P670 Low) Hr)
+
+pub one-pattern : (g : Word) (t : Pattern) → fixed g t ≡ true → onlyPattern g ≡ t
+one-pattern g Hr h = rw (zero-at g Hr 2 refl h, zero-at g Hr 16 refl h)
+one-pattern g Low h = rw (zero-at g Low 2 refl h, one-at g Low 16 refl h, zero-at g Low 24 refl h)
+one-pattern g P670 h = rw (zero-at g P670 2 refl h, one-at g P670 16 refl h, one-at g P670 24 refl h)
+one-pattern g P740 h = rw (one-at g P740 2 refl h)
+
+-- the only kind of a pattern whose coding can hold
+abbrev hrKind : ℕ → Kind
+hrKind c = cond (eqb c 0) Speech (cond (eqb c 1) Data (cond (eqb c 2) Om Configuration))
+
+abbrev kindIn : Word → Pattern → Kind
+kindIn g Hr = hrKind (c1to3 g Hr)
+kindIn g Low = cond (eqb (c4to5 g) 0) NoSpeech Lower
+kindIn g P670 = Amr670
+kindIn g P740 = Amr740
+
+hr-type : (d : Direction) (g : Word) (c : ℕ) → hrCoded d g c ≡ true → c1to3 g Hr ≡ c
+hr-type d g c h = eqb-true (c1to3 g Hr) c (search ands)
+
+only-kind : (d : Direction) (g : Word) (k : Kind) → coded d g k ≡ true → kindIn g (patternOf k) ≡ k
+only-kind d g Speech h = ap hrKind (hr-type d g 0 (search ands))
+only-kind d g Data h = ap hrKind (hr-type d g 1 h)
+only-kind d g Om h = ap hrKind (hr-type d g 2 (search ands))
+only-kind d g Configuration h = ap hrKind (hr-type d g 7 h)
+only-kind d g NoSpeech h = let e : eqb (c4to5 g) 0 ≡ true = search ands in rw e
+only-kind d g Lower h = rw (not-true (eqb (c4to5 g) 0) h)
+only-kind d g Amr670 h = refl
+only-kind d g Amr740 h = refl
+
+-- one kind at most has a word for its body
+pub one-body : (d : Direction) (g : Word) (j k : Kind) → isBody d g j ≡ true → isBody d g k ≡ true → j ≡ k
+one-body d g j k a b =
+    let s : onlyPattern g ≡ patternOf j = one-pattern g (patternOf j) (search ands) in
+    let t : onlyPattern g ≡ patternOf k = one-pattern g (patternOf k) (search ands) in
+    sym (only-kind d g j (search ands)) ∙ ap (kindIn g) (sym s ∙ t) ∙ only-kind d g k (search ands)
+
+-- whether a word is a body of a kind lies in as many bits as the body has
+pub body-cut : (d : Direction) (f : ℕ → Bool) (p : ℕ) (k : Kind) → isBody d (wordAt f p (bodyOf k)) k ≡ isBody d (λ i. f (p + i)) k
+body-cut d f p Speech = refl
+body-cut d f p Data = refl
+body-cut d f p Om = refl
+body-cut d f p Configuration = refl
+body-cut d f p NoSpeech = refl
+body-cut d f p Lower = refl
+body-cut d f p Amr670 = refl
+body-cut d f p Amr740 = refl
+
+-- one kind at most has its body at a place
+one-kind : (d : Direction) (f : ℕ → Bool) (p : ℕ) (j k : Kind) → isBody d (wordAt f p (bodyOf j)) j ≡ true → isBody d (wordAt f p (bodyOf k)) k ≡ true → j ≡ k
+one-kind d f p j k a b = one-body d (λ i. f (p + i)) j k (sym (body-cut d f p j) ∙ a) (sym (body-cut d f p k) ∙ b)
+
+-- the body and the tail of a kind at a place, the frame that they make, and whether it is due
+abbrev pub bodyAt : Capture → ℕ → Kind → Word
+bodyAt w p k = wordAt (w .bits) p (bodyOf k)
+
+abbrev pub tailAt : Capture → ℕ → Kind → ℕ
+tailAt w p k = tailOf (w .bits) (w .n - (p + bodyOf k)) (p + bodyOf k)
+
+abbrev pub frameAt : Capture → ℕ → ℕ → Kind → Frame
+frameAt w x p k = record { kind = k; start = p; body = bodyAt w p k; tail = tailAt w p k; verdict = verdictOf x (bodyAt w p k) k }
+
+abbrev pub dueAt : Capture → ℕ → ℕ → Kind → Bool
+dueAt w x p k =
+    leb (p + bodyOf k) (w .n)
+    && isBody (w .direction) (bodyAt w p k) k
+    && leb (leastTail (w .direction) k) (tailAt w p k)
+    && allowed x (bodyAt w p k) k
+
+module _ (w : Capture) (x p : ℕ) where
+  -- what the test finds is due
+  pub test-due : (k : Kind) → dueAt w x p k ≡ true → Due w x p (frameAt w x p k)
+  test-due k h =
+      let before : p + bodyOf k ≤ w .n = leb-true _ _ (search ands) in
+      record {
+        stands =
+            record {
+              at = refl;
+              before = before;
+              bits = refl;
+              holds = search ands;
+              tail = tail-whole w (p + bodyOf k) before;
+              least = leb-true _ _ (search ands);
+            };
+        allows = search ands;
+        judged = refl;
+      }
+
+  -- what is due is what the test finds
+  pub due-test : (f : Frame) → Due w x p f → (dueAt w x p (f .kind) ≡ true) × (frameAt w x p (f .kind) ≡ f)
+  due-test f h = (passes, same)
+    where
+      s : Stands w p f
+      s = h .stands
+
+      t : tailAt w p (f .kind) ≡ f .tail
+      t = tail-one w (p + bodyOf (f .kind)) (tailAt w p (f .kind)) (f .tail) (tail-whole w (p + bodyOf (f .kind)) (s .before)) (s .tail)
+
+      v : verdictOf x (bodyAt w p (f .kind)) (f .kind) ≡ f .verdict
+      v = ap (λ (g : Word). verdictOf x g (f .kind)) (sym (s .bits)) ∙ sym (h .judged)
+
+      passes : dueAt w x p (f .kind) ≡ true
+      passes =
+          and-both _ _
+          (and-both _ _
+          (and-both _ _ (le-leb (p + bodyOf (f .kind)) (w .n) (s .before)) (subst (λ (g : Word). isBody (w .direction) g (f .kind) ≡ true) (s .bits) (s .holds)))
+          (le-leb (leastTail (w .direction) (f .kind)) (tailAt w p (f .kind)) (omega (arith, t, s .least))))
+          (subst (λ (g : Word). allowed x g (f .kind) ≡ true) (s .bits) (h .allows))
+
+      same : frameAt w x p (f .kind) ≡ f
+      same i = record { kind = f .kind; start = sym (s .at) i; body = sym (s .bits) i; tail = t i; verdict = v i }
+
+-- the first kind of a list that passes a test
+abbrev first : (Kind → Bool) → List Kind → Option Kind
+first t [] = none
+first t (k ∷ ks) = let r = first t ks in cond (t k) (some k) r
+
+abbrev made : Capture → ℕ → ℕ → Option Kind → Option Frame
+made w x p none = none
+made w x p (some k) = some (frameAt w x p k)
+
+-- the frame that is due at a place in a context, by trying each kind
+unfoldable pub lookAt : Capture → ℕ → ℕ → Option Frame
+lookAt w x p = made w x p (first (dueAt w x p) kinds)
+
+first-passes : (t : Kind → Bool) (ks : List Kind) (k : Kind) → first t ks ≡ some k → t k ≡ true
+first-passes t [] k h = cc
+first-passes t (j ∷ ks) k h = go (t j) refl h (first-passes t ks k)
+  where
+    go : (b : Bool) → t j ≡ b → cond b (some j) (first t ks) ≡ some k → (first t ks ≡ some k → t k ≡ true) → t k ≡ true
+    go true e h rest = let q : j ≡ k = cc in rw (← q) e
+    go false e h rest = rest h
+
+-- no kind of a list passes
+abbrev Nones : (Kind → Bool) → List Kind → Type 0
+Nones t [] = Unit {0}
+Nones t (k ∷ ks) = (t k ≡ false) × Nones t ks
+
+first-none : (t : Kind → Bool) (ks : List Kind) → first t ks ≡ none → Nones t ks
+first-none t [] h = tt
+first-none t (j ∷ ks) h = go (t j) refl h (first-none t ks)
+  where
+    go : (b : Bool) → t j ≡ b → cond b (some j) (first t ks) ≡ none → (first t ks ≡ none → Nones t ks) → (t j ≡ false) × Nones t ks
+    go true e h rest = let z : _≡_ {A = ℕ} 0 1 = cc in absurd (omega arith)
+    go false e h rest = (e, rest h)
+
+none-passes : (t : Kind → Bool) → Nones t kinds → (k : Kind) → t k ≡ false
+none-passes t h Speech = h .0
+none-passes t h Data = h .1 .0
+none-passes t h Om = h .1 .1 .0
+none-passes t h Configuration = h .1 .1 .1 .0
+none-passes t h NoSpeech = h .1 .1 .1 .1 .0
+none-passes t h Lower = h .1 .1 .1 .1 .1 .0
+none-passes t h Amr670 = h .1 .1 .1 .1 .1 .1 .0
+none-passes t h Amr740 = h .1 .1 .1 .1 .1 .1 .1 .0
+
+module _ (w : Capture) (x p : ℕ) where
+  -- two kinds that are due at a place are one
+  due-one : (j k : Kind) → dueAt w x p j ≡ true → dueAt w x p k ≡ true → j ≡ k
+  due-one j k a b = one-kind (w .direction) (w .bits) p j k (search ands) (search ands)
+
+  pub look-due : (f : Frame) → lookAt w x p ≡ some f → Due w x p f
+  unfolding lookAt
+  look-due f h = go (first (dueAt w x p) kinds) refl h
+    where
+      go : (o : Option Kind) → first (dueAt w x p) kinds ≡ o → made w x p o ≡ some f → Due w x p f
+      go none e q = let z : _≡_ {A = ℕ} 0 1 = cc in absurd (omega arith)
+      go (some k) e q = let r : frameAt w x p k ≡ f = cc in subst (Due w x p) r (test-due w x p k (first-passes (dueAt w x p) kinds k e))
+
+  pub due-look : (f : Frame) → Due w x p f → lookAt w x p ≡ some f
+  unfolding lookAt
+  due-look f h = go (first (dueAt w x p) kinds) refl
+    where
+      a : dueAt w x p (f .kind) ≡ true
+      a = due-test w x p f h .0
+
+      go : (o : Option Kind) → first (dueAt w x p) kinds ≡ o → made w x p o ≡ some f
+      go none e = let b = none-passes (dueAt w x p) (first-none (dueAt w x p) kinds e) (f .kind) in let z : true ≡ false = sym a ∙ b in cc
+      go (some k) e =
+          let r : k ≡ f .kind = due-one k (f .kind) (first-passes (dueAt w x p) kinds k e) a in
+          ap (λ (j : Kind). some (frameAt w x p j)) r ∙ ap some (due-test w x p f h .1)
+
+-- a body has at least one bit
+pub body-some : (k : Kind) → 0 < bodyOf k
+body-some Speech = omega arith
+body-some Data = omega arith
+body-some Om = omega arith
+body-some Configuration = omega arith
+body-some NoSpeech = omega arith
+body-some Lower = omega arith
+body-some Amr670 = omega arith
+body-some Amr740 = omega arith
+
+-- a kind 8 never starts a run
+pub no-740 : (g : Word) → starts g Amr740 ≡ true → ⊥
+unfolding starts
+no-740 g h = let z : _≡_ {A = ℕ} 0 1 = cc in omega arith
+
+-- what starts a run is allowed in every context
+pub starts-allowed : (x : ℕ) (g : Word) (k : Kind) → allowed 0 g k ≡ true → allowed x g k ≡ true
+starts-allowed x g k h = go (eqb x 0) refl k h
+  where
+    go : (b : Bool) → eqb x 0 ≡ b → (k : Kind) → starts g k ≡ true → cond b (starts g k) (not b && cond (eqb (kindNo k) 8) (leb 2 x) true) ≡ true
+    go true e k h = h
+    go false e Speech h = refl
+    go false e Data h = refl
+    go false e Om h = refl
+    go false e Configuration h = refl
+    go false e NoSpeech h = refl
+    go false e Lower h = refl
+    go false e Amr670 h = refl
+    go false e Amr740 h = absurd (no-740 g h)
+
+-- a frame that stands does so whatever its verdict
+module _ (w : Capture) (p : ℕ) (f : Frame) (v : ℕ) where
+  abbrev pub judgedAs : Frame
+  judgedAs = record { kind = f .kind; start = f .start; body = f .body; tail = f .tail; verdict = v }
+
+  pub stands-judged : Stands w p f → Stands w p judgedAs
+  stands-judged s = record { at = s .at; before = s .before; bits = s .bits; holds = s .holds; tail = s .tail; least = s .least }
+
+-- the eight kinds have what the laws of a reading ask of a set of frames
+unfoldable pub sound : (w : Capture) → Sound rules w
+sound w =
+    record {
+      look = lookAt w;
+      look-due = look-due w;
+      due-look = due-look w;
+      later = λ x p f h. omega (arith, h .stands .at, body-some (f .kind));
+      within = λ x p f h. omega (arith, h .stands .at, h .stands .tail .within);
+      starts-due =
+          λ x p f h.
+          let v : ℕ = verdictOf x (f .body) (f .kind) in
+          (judgedAs w p f v, record { stands = stands-judged w p f v (h .stands); allows = starts-allowed x (f .body) (f .kind) (h .allows); judged = refl });
+    }

@@ -1,0 +1,7 @@
+pub mod BoolLaws
+pub mod TailLaws
+pub mod FrameLaws
+pub mod PolyLaws
+pub mod ExamplesHold
+pub mod ChannelLaws
+pub mod DLaws

@@ -1,0 +1,10 @@
+pub mod Kinds
+pub mod Places
+pub mod Coding
+pub mod Poly
+pub mod Crc
+pub mod Checks
+pub mod Verdict
+pub mod Control
+pub mod Frames
+pub mod Examples

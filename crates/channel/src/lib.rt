@@ -1,0 +1,28 @@
+// The 8 kbit/s channel of TS 48.061, clause 5.2, as definitions in specs/ and laws in proofs/. Here stand only its names, which the code above
+// shares with the definitions.
+
+// Which way a capture was taken.
+pub enum Direction {
+    Uplink,
+    Downlink,
+}
+
+// The synchronisation patterns (5.2.1 to 5.2.3).
+pub enum Pattern {
+    Hr,
+    Low,
+    P670,
+    P740,
+}
+
+// The kinds of frame, numbered from 1.
+pub enum Kind {
+    Speech,
+    Data,
+    Om,
+    Configuration,
+    NoSpeech,
+    Lower,
+    Amr670,
+    Amr740,
+}

@@ -1,0 +1,312 @@
+-- The table of D bits against the rule of each kind, and the D bits in bytes: how a byte is padded, and which bit is which D bit.
+-- Assumes nothing.
+use mathlib.Core.Path.{_≡_, refl, sym, _∙_, ap}
+use mathlib.Core.Logic.{by-cases}
+use mathlib.Core.Bool.{Bool, true, false, cond}
+use mathlib.Core.List.{List, [], _∷_, _++_, map}
+use Prim.Native.Nat.{ℕ, zero, suc, _+_, _*_, _-_, _/_, _%_, _^_, _<_, _≤_}
+use native.Mathlib.Omega.{arith}
+use native.Mathlib.Nat.{not-suc-le-zero, le-of-suc-le-suc, pow-suc, mul-assoc, mul-comm, sub-zero, zero-add, add-zero, mod-eq-of-lt}
+use native.Mathlib.Decide.{decLt}
+use native.Mathlib.Numerals.{add-one}
+use borrow.Author.Tests.{eq-eqb}
+use lib.Dec.{eqb, lit<}
+use lib.ListN.{length, getD, take, drop, replicate, length-map, length-append, length-drop, drop-of-length-le, List·getD-eq-default}
+use lib.Pow.{shr-shr, shl-lt}
+use lib.Seq.{getD-take, getD-drop, take-nil, take-all, length-take-le}
+use Rattle.bits.specs.Bit.{bitAt, toN, numberFrom, number, count}
+use Rattle.bits.proofs.CountLaws.{getD-map-count}
+use Rattle.channel.specs.declared.Kind.{Kind}
+use Rattle.channel.specs.declared.Kind.the-variants.{Speech, Data, Om, Configuration, NoSpeech, Lower, Amr670, Amr740}
+use Rattle.channel.specs.Kinds.{dCount, bodyOf}
+use Rattle.channel.specs.Places.{elem, dPlaces}
+use Rattle.channel.specs.Coding.{Word, bitsAt}
+use Rattle.channel.specs.Control.{fromTop}
+use Rattle.channel.proofs.DLaws.{Rule, d-rule}
+use Rattle.word.specs.Below.{Below}
+use Rattle.word.proofs.WordLaws.{field-grows}
+use Rattle.dbits.specs.DBits.{allPlaces, dFrom, dBytes}
+
+-- a kind's part of the table is the list of its D places
+pub d-part : (k : Kind) → take (dCount k) (drop (dFrom k) allPlaces) ≡ dPlaces k
+unfolding allPlaces dPlaces
+d-part Speech = refl
+d-part Data = refl
+d-part Om = refl
+d-part Configuration = refl
+d-part NoSpeech = refl
+d-part Lower = refl
+d-part Amr670 = refl
+d-part Amr740 = refl
+
+-- so it obeys the rule: its places rise, none is fixed, C, XC or kind 1's CRC, and no other place is missing
+pub table-rule : (k : Kind) → Rule k (take (dCount k) (drop (dFrom k) allPlaces))
+table-rule k = rw (d-part k) (d-rule k)
+
+-- a kind has as many D places as the table of kinds says
+pub d-length : (k : Kind) → length (dPlaces k) ≡ dCount k
+unfolding dPlaces
+d-length Speech = refl
+d-length Data = refl
+d-length Om = refl
+d-length Configuration = refl
+d-length NoSpeech = refl
+d-length Lower = refl
+d-length Amr670 = refl
+d-length Amr740 = refl
+
+-- no kind has more than 151
+pub d-count-le : (k : Kind) → dCount k ≤ 151
+d-count-le Speech = lit< tt
+d-count-le Data = lit< tt
+d-count-le Om = lit< tt
+d-count-le Configuration = lit< tt
+d-count-le NoSpeech = lit< tt
+d-count-le Lower = lit< tt
+d-count-le Amr670 = lit< tt
+d-count-le Amr740 = lit< tt
+
+-- every kind's part ends in the table
+pub part-end : (k : Kind) → dFrom k + dCount k ≤ 1022
+part-end Speech = lit< tt
+part-end Data = lit< tt
+part-end Om = lit< tt
+part-end Configuration = lit< tt
+part-end NoSpeech = lit< tt
+part-end Lower = lit< tt
+part-end Amr670 = lit< tt
+part-end Amr740 = lit< tt
+
+-- no body is longer than a frame
+body-le : (k : Kind) → bodyOf k ≤ 160
+body-le Speech = lit< tt
+body-le Data = lit< tt
+body-le Om = lit< tt
+body-le Configuration = lit< tt
+body-le NoSpeech = lit< tt
+body-le Lower = lit< tt
+body-le Amr670 = lit< tt
+body-le Amr740 = lit< tt
+
+-- a number is equal to itself, as a test
+eqb-self : (n : ℕ) → eqb n n ≡ true
+eqb-self n = eq-eqb n n refl
+
+-- an entry of a list is in it
+entry-elem : (ps : List ℕ) (j : ℕ) → j < length ps → elem (getD ps j 0) ps ≡ true
+entry-elem [] j h = absurd (not-suc-le-zero h)
+entry-elem (p ∷ ps) zero h = rw (eqb-self p)
+entry-elem (p ∷ ps) (suc j) h = go (eqb (getD ps j 0) p) (entry-elem ps j (le-of-suc-le-suc h))
+  where
+    go : (b : Bool) → elem (getD ps j 0) ps ≡ true → cond b true (elem (getD ps j 0) ps) ≡ true
+    go true e = refl
+    go false e = e
+
+-- each D place lies in a frame
+pub places-below : (k : Kind) → Below 160 (dPlaces k)
+places-below k j h =
+    let f = d-rule k .free (getD (dPlaces k) j 0) (entry-elem (dPlaces k) j h) in
+    omega (arith, body-le k)
+
+-- the part of the table that is lent for a kind
+pub part-is : (k : Kind) (places : List ℕ) (from n : ℕ) → places ≡ allPlaces → from ≡ dFrom k → n ≡ dCount k → take (from + n - from) (drop from places) ≡ dPlaces k
+part-is k places from n p f c =
+    let e : from + n - from ≡ n = omega arith in
+    rw (e, p, f, c) (d-part k)
+
+-- the bits at the first n places are the first n bits
+bits-take : (g : Word) (n : ℕ) (ps : List ℕ) → bitsAt g (take n ps) ≡ take n (bitsAt g ps)
+bits-take g zero ps = refl
+bits-take g (suc n) [] = refl
+bits-take g (suc n) (p ∷ ps) = ap (λ (bs : List Bool). g p ∷ bs) (bits-take g n ps)
+
+-- and those behind n places are the bits behind n
+bits-drop : (g : Word) (n : ℕ) (ps : List ℕ) → bitsAt g (drop n ps) ≡ drop n (bitsAt g ps)
+bits-drop g zero ps = refl
+bits-drop g (suc n) [] = refl
+bits-drop g (suc n) (p ∷ ps) = bits-drop g n ps
+
+-- n zeros behind a number double it n times
+zeros-behind : (n m a : ℕ) → n ≤ m → numberFrom a (take n (replicate m false)) ≡ a * 2 ^ n
+zeros-behind zero m a h = omega arith
+zeros-behind (suc n) zero a h = absurd (not-suc-le-zero h)
+zeros-behind (suc n) (suc m) a h =
+    let e : 2 * a + 0 ≡ a * 2 = omega arith in
+    zeros-behind n m (2 * a + 0) (le-of-suc-le-suc h)
+    ∙ rw (e, pow-suc, mul-assoc, mul-comm (2 ^ n) 2)
+
+-- the first n of some bits with m zeros behind them, as a number: the bits that there are, and the zeros that they leave
+zeros-fill : (bs : List Bool) (n m a : ℕ) → n ≤ length bs + m → numberFrom a (take n (bs ++ replicate m false)) ≡ numberFrom a (take n bs) * 2 ^ (n - length bs)
+zeros-fill [] n m a h = rw (take-nil {A = Bool} n, sub-zero n) (zeros-behind n m a (rw zero-add at h))
+zeros-fill (b ∷ bs) zero m a h = let e : 0 - suc (length bs) ≡ 0 = omega arith in rw e (omega arith)
+zeros-fill (b ∷ bs) (suc n) m a h =
+    let e : suc n - suc (length bs) ≡ n - length bs = omega arith in
+    rw e (zeros-fill bs n m (2 * a + toN b) (omega arith))
+
+-- a byte from the top holds its first eight bits, with a zero below them for each that is missing
+pub bytes-pack : (bs : List Bool) → fromTop bs ≡ number (take 8 bs) * 2 ^ (8 - length bs)
+bytes-pack bs = zeros-fill bs 8 8 0 (omega arith)
+
+-- bits behind a number of m bits make a number of so many bits more
+number-grows : (bs : List Bool) (a m : ℕ) → a < 2 ^ m → numberFrom a bs < 2 ^ (m + length bs)
+number-grows [] a m h = rw (add-zero m) h
+number-grows (b ∷ bs) a m h =
+    let e : m + suc (length bs) ≡ m + 1 + length bs = omega arith in
+    rw e (number-grows bs (2 * a + toN b) (m + 1) (field-grows a m b (2 * a + toN b) h refl))
+
+-- a field of n places has n bits
+number-lt : (g : Word) (ps : List ℕ) (n : ℕ) → length ps ≡ n → number (bitsAt g ps) < 2 ^ n
+number-lt g ps n e =
+    let l : 0 + length (bitsAt g ps) ≡ n = zero-add (length (bitsAt g ps)) ∙ length-map ps g ∙ e in
+    rw l at (number-grows (bitsAt g ps) 0 0 (lit< tt))
+
+-- a field of n bits above 8 - n zeros is a byte
+padded-lt : (field n : ℕ) → n ≤ 8 → field < 2 ^ n → field * 2 ^ (8 - n) < 256
+padded-lt field n h l = let e : n + (8 - n) ≡ 8 = omega arith in rw e at (shl-lt n (8 - n) l)
+
+-- where eight are left, none is missing
+none-missing : (n s : ℕ) → ¬ (n < s + 8) → 0 ≡ 8 - (n - s)
+none-missing n s h = omega arith
+
+-- the places from s on, at most eight: they begin at s or at the end, and end eight later or at the end
+module _ (ps : List ℕ) (s a e : ℕ) (from : a ≡ s - (s - length ps)) (to : e ≡ s + 8 - (s + 8 - length ps)) where
+  -- the lent part has just these
+  part-eight : take (e - a) (drop a ps) ≡ take 8 (drop s ps)
+  part-eight =
+      by-cases (decLt (length ps) s)
+      (λ (past : length ps < s).
+      let z : e - a ≡ 0 = omega arith in
+      rw (z, drop-of-length-le ps {i = s} (omega arith)))
+      (λ (n : ¬ (length ps < s)).
+      let f : a ≡ s = omega arith in
+      rw f
+      (by-cases (decLt (length ps) (s + 8))
+      (λ (short : length ps < s + 8).
+      let l : length (drop s ps) ≡ length ps - s = length-drop s ps in
+      take-all (e - s) (drop s ps) (omega arith) ∙ sym (take-all 8 (drop s ps) (omega arith)))
+      (λ (m : ¬ (length ps < s + 8)).
+      let w : e - s ≡ 8 = omega arith in
+      rw w)))
+
+  -- as many are missing to eight as the list is short of
+  eight-left : 8 - (e - a) ≡ 8 - (length ps - s)
+  eight-left =
+      by-cases (decLt (length ps) s)
+      (λ (past : length ps < s).
+      let z : e - a ≡ 0 = omega arith in
+      let w : length ps - s ≡ 0 = omega arith in
+      rw (z, w))
+      (λ (n : ¬ (length ps < s)).
+      let f : a ≡ s = omega arith in
+      rw f
+      (by-cases (decLt (length ps) (s + 8))
+      (λ (short : length ps < s + 8). let w : e ≡ length ps = omega arith in rw w)
+      (λ (m : ¬ (length ps < s + 8)).
+      let w : e - s ≡ 8 = omega arith in
+      rw w (none-missing (length ps) s m))))
+
+  -- the lent part has e - a places
+  eight-length : length (take (e - a) (drop a ps)) ≡ e - a
+  eight-length = let l = length-drop a ps in length-take-le (e - a) (drop a ps) (omega arith)
+
+  -- which are at most eight
+  eight-most : e - a ≤ 8
+  eight-most = omega arith
+
+  -- they lie in a frame, as all do
+  pub eight-below : Below 160 ps → Below 160 (take (e - a) (drop a ps)) × (length (take (e - a) (drop a ps)) ≤ 8)
+  eight-below below = (
+    λ i h.
+        let l : i < e - a = rw eight-length at h in
+        rw (getD-take (e - a) (drop a ps) i 0 l, getD-drop a ps i 0) (below (a + i) (omega arith)),
+    rw eight-length eight-most,
+  )
+
+-- byte j of a part, as it is packed: the field of the places from a to e, shifted up by what is missing
+pub byte-of : (g : Word) (ps : List ℕ) (j a e field r : ℕ) → a ≡ 8 * j - (8 * j - length ps) → e ≡ 8 * j + 8 - (8 * j + 8 - length ps) → field ≡ number (bitsAt g (take (e - a) (drop a ps)))
+    → r ≡ field * 2 ^ (8 - (e - a)) % 256 → r ≡ fromTop (drop (8 * j) (bitsAt g ps))
+byte-of g ps j a e field r from to read put =
+    let low : field < 2 ^ (e - a) = rw read (number-lt g (take (e - a) (drop a ps)) (e - a) (eight-length ps (8 * j) a e from to)) in
+    let whole : field * 2 ^ (8 - (e - a)) % 256 ≡ field * 2 ^ (8 - (e - a)) = mod-eq-of-lt (padded-lt field (e - a) (eight-most ps (8 * j) a e from to) low) in
+    let bits : bitsAt g (take (e - a) (drop a ps)) ≡ take 8 (drop (8 * j) (bitsAt g ps)) =
+    ap (bitsAt g) (part-eight ps (8 * j) a e from to) ∙ bits-take g 8 (drop (8 * j) ps) ∙ ap (take 8) (bits-drop g (8 * j) ps) in
+    let l : length (drop (8 * j) (bitsAt g ps)) ≡ length ps - 8 * j = length-drop (8 * j) (bitsAt g ps) ∙ ap (λ (n : ℕ). n - 8 * j) (length-map ps g) in
+    let d : 8 - (e - a) ≡ 8 - length (drop (8 * j) (bitsAt g ps)) = eight-left ps (8 * j) a e from to ∙ ap (λ (n : ℕ). 8 - n) (sym l) in
+    put ∙ whole ∙ rw (read, bits, d) (sym (bytes-pack (drop (8 * j) (bitsAt g ps))))
+
+-- a bit is 0 or 1
+toN-lt : (b : Bool) → toN b < 2
+toN-lt true = lit< tt
+toN-lt false = lit< tt
+
+-- a bit is told by its number
+toN-one : (b : Bool) → eqb (toN b) 1 ≡ b
+toN-one true = refl
+toN-one false = refl
+
+-- above the bits that are put behind a stands a
+above : (bs : List Bool) (a : ℕ) → numberFrom a bs / 2 ^ length bs ≡ a
+above [] a = omega arith
+above (b ∷ bs) a =
+    let v = numberFrom (2 * a + toN b) bs in
+    let e : v / 2 ^ length bs ≡ 2 * a + toN b = above bs (2 * a + toN b) in
+    let h : v / 2 ^ length bs / 2 ^ 1 ≡ a = rw e (omega (arith, toN-lt b)) in
+    rw add-one at (sym (shr-shr v (length bs) 1)) ∙ h
+
+-- and below it each of the bits in its place
+digit : (bs : List Bool) (a j : ℕ) → j < length bs → numberFrom a bs / 2 ^ (length bs - suc j) % 2 ≡ toN (getD bs j false)
+digit [] a j h = absurd (not-suc-le-zero h)
+digit (b ∷ bs) a zero h =
+    let e : suc (length bs) - 1 ≡ length bs = omega arith in
+    rw (e, above bs (2 * a + toN b)) (omega (arith, toN-lt b))
+digit (b ∷ bs) a (suc j) h =
+    let e : suc (length bs) - suc (suc j) ≡ length bs - suc j = omega arith in
+    rw e (digit bs (2 * a + toN b) j (le-of-suc-le-suc h))
+
+-- zeros behind some bits do not show
+zeros-unseen : (bs : List Bool) (m j : ℕ) → getD (bs ++ replicate m false) j false ≡ getD bs j false
+zeros-unseen [] zero j = refl
+zeros-unseen [] (suc m) zero = refl
+zeros-unseen [] (suc m) (suc j) = zeros-unseen [] m j
+zeros-unseen (b ∷ bs) m zero = refl
+zeros-unseen (b ∷ bs) m (suc j) = zeros-unseen bs m j
+
+-- bit j of a byte from the top is bit j of the bits, or zero behind their end
+pub fromTop-bit : (bs : List Bool) (j : ℕ) → j < 8 → fromTop bs / 2 ^ (7 - j) % 2 ≡ toN (getD bs j false)
+fromTop-bit bs j h =
+    let all = bs ++ replicate 8 false in
+    let l : length (take 8 all) ≡ 8 = length-take-le 8 all (omega (arith, length-append bs (replicate 8 false))) in
+    let e : length (take 8 all) - suc j ≡ 7 - j = omega arith in
+    let d : numberFrom 0 (take 8 all) / 2 ^ (length (take 8 all) - suc j) % 2 ≡ toN (getD (take 8 all) j false) = digit (take 8 all) 0 j (omega arith) in
+    rw e at d ∙ ap toN (getD-take 8 all j false h ∙ zeros-unseen bs 8 j)
+
+-- bit i of the bytes is bit i of the D bits, or zero behind their end
+bytes-bit : (g : Word) (k : Kind) (i : ℕ) → i < 152 → bitAt (dBytes g k) i ≡ getD (bitsAt g (dPlaces k)) i false
+unfolding dBytes
+bytes-bit g k i h =
+    let bs = bitsAt g (dPlaces k) in
+    let byte : ℕ → ℕ = λ j. fromTop (drop (8 * j) bs) in
+    let at : getD (map byte (count 19 0)) (i / 8) 0 ≡ fromTop (drop (8 * (i / 8)) bs) = getD-map-count byte 19 0 (i / 8) (omega arith) ∙ ap byte (zero-add (i / 8)) in
+    let e : 8 * (i / 8) + i % 8 ≡ i = omega arith in
+    let one : getD (drop (8 * (i / 8)) bs) (i % 8) false ≡ getD bs i false = getD-drop (8 * (i / 8)) bs (i % 8) false ∙ ap (λ (n : ℕ). getD bs n false) e in
+    ap (λ (x : ℕ). eqb (x / 2 ^ (7 - i % 8) % 2) 1) at
+    ∙ ap (λ (x : ℕ). eqb x 1) (fromTop-bit (drop (8 * (i / 8)) bs) (i % 8) (omega arith) ∙ ap toN one)
+    ∙ toN-one (getD bs i false)
+
+-- a bit of a list of bits at places
+getD-bits : (g : Word) (ps : List ℕ) (i : ℕ) → i < length ps → getD (bitsAt g ps) i false ≡ g (getD ps i 0)
+getD-bits g [] i h = absurd (not-suc-le-zero h)
+getD-bits g (p ∷ ps) zero h = refl
+getD-bits g (p ∷ ps) (suc i) h = getD-bits g ps i (le-of-suc-le-suc h)
+
+-- bit i of the bytes is D bit i + 1
+pub dBytes-bit : (g : Word) (k : Kind) (i : ℕ) → i < dCount k → bitAt (dBytes g k) i ≡ g (getD (dPlaces k) i 0)
+dBytes-bit g k i h =
+    let l : i < length (dPlaces k) = rw (d-length k) h in
+    bytes-bit g k i (omega (arith, d-count-le k)) ∙ getD-bits g (dPlaces k) i l
+
+-- and the bits behind the last D bit are zero
+pub dBytes-past : (g : Word) (k : Kind) (i : ℕ) → dCount k ≤ i → i < 152 → bitAt (dBytes g k) i ≡ false
+dBytes-past g k i past h =
+    let l : length (bitsAt g (dPlaces k)) ≤ i = rw (length-map (dPlaces k) g, d-length k) past in
+    bytes-bit g k i h ∙ List·getD-eq-default (bitsAt g (dPlaces k)) false {n = i} l

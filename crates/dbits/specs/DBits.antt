@@ -1,0 +1,32 @@
+-- The table of D bits and the D bits as bytes (document 01, "Frames": "One constant table holds the place of each of the 1,022 D bits of the
+-- eight kinds"; "Records and calls": "D bits from the top bit down, zero padded"). Assumes nothing.
+use mathlib.Core.List.{List, map}
+use Prim.Native.Nat.{ℕ, _*_}
+use lib.ListN.{drop}
+use Rattle.reading.specs.Reading.{joined}
+use Rattle.bits.specs.Bit.{count}
+use Rattle.channel.specs.declared.Kind.{Kind}
+use Rattle.channel.specs.declared.Kind.the-variants.{Speech, Data, Om, Configuration, NoSpeech, Lower, Amr670, Amr740}
+use Rattle.channel.specs.Kinds.{kinds, dCount}
+use Rattle.channel.specs.Places.{dPlaces}
+use Rattle.channel.specs.Coding.{Word, bitsAt}
+use Rattle.channel.specs.Control.{fromTop}
+
+-- the whole table: the places of the D bits of the eight kinds, one kind behind the other
+unfoldable pub allPlaces : List ℕ
+allPlaces = joined (map dPlaces kinds)
+
+-- where a kind's part of the table begins
+abbrev pub dFrom : Kind → ℕ
+dFrom Speech = 0
+dFrom Data = 112
+dFrom Om = 238
+dFrom Configuration = 358
+dFrom NoSpeech = 483
+dFrom Lower = 608
+dFrom Amr670 = 734
+dFrom Amr740 = 871
+
+-- the D bits of a word of a kind in 19 bytes, as many as the longest kind has: from the top bit down, zero padded
+unfoldable pub dBytes : Word → Kind → List ℕ
+dBytes g k = map (λ j. fromTop (drop (8 * j) (bitsAt g (dPlaces k)))) (count 19 0)

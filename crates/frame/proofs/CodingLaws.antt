@@ -1,0 +1,275 @@
+-- How the code's tests come to the definitions of fixed bits and coding.
+-- Assumes nothing.
+use mathlib.Core.Path.{_≡_, refl, sym, _∙_, ap, fun-ext}
+use mathlib.Core.Bool.{Bool, true, false, not, _&&_, cond, Bool·beq}
+use mathlib.Core.List.{List, [], _∷_}
+use Prim.Native.Nat.{ℕ, zero, suc, _+_, _*_, _/_, _%_, _<_, _≤_, zero-le}
+use native.Mathlib.Omega.{arith}
+use borrow.Author.Tests.{eq-eqb, ne-eqb, eqb-true}
+use lib.Dec.{T, eqb, ltb, ltb→lt}
+use lib.ListN.{length, getD}
+use Rattle.bits.specs.Bit.{toN, number, count}
+use Rattle.channel.specs.declared.Direction.{Direction}
+use Rattle.channel.specs.declared.Direction.the-variants.{Uplink, Downlink}
+use Rattle.channel.specs.declared.Pattern.{Pattern}
+use Rattle.channel.specs.declared.Pattern.the-variants.{Hr, Low, P670, P740}
+use Rattle.channel.specs.declared.Kind.{Kind}
+use Rattle.channel.specs.Kinds.{patternOf}
+use Rattle.channel.specs.declared.Kind.the-variants.{Speech, Data, Om, Configuration, NoSpeech, Lower, Amr670, Amr740}
+use Rattle.channel.specs.Places.{elem, cPlaces, xcPlaces}
+use Rattle.channel.specs.Coding.{Word, bitsAt, all, odd, fixed, c1to3, c4to5, c4, c4Coded, hrCoded, xcCoded, speechXc, coded, isBody}
+use Rattle.channel.proofs.BoolLaws.{all-at, and-both}
+use Rattle.channel.proofs.DLaws.{elem-count}
+use Rattle.channel.proofs.FrameLaws.{onlyPattern, one-pattern, one-body}
+use Rattle.word.specs.Below.{Below}
+use Rattle.frame.specs.declared.coding.Found.{Found}
+use Rattle.frame.specs.declared.coding.Found.the-variants.{Is, Nothing}
+use Rattle.frame.specs.declared.coding.Sync.{Sync}
+use Rattle.frame.specs.declared.coding.Sync.the-variants.{In, Nowhere}
+use Rattle.frame.specs.Found.{Held, Coded, KindOf}
+
+-- a list whose entries a test finds below m
+abbrev allLt : ℕ → List ℕ → Bool
+allLt m [] = true
+allLt m (p ∷ ps) = ltb p m && allLt m ps
+
+both : (a b : Bool) → T (a && b) → T a × T b
+both true b t = (tt, t)
+both false b t = absurd t
+
+pub listed-below : (m : ℕ) (ps : List ℕ) → T (allLt m ps) → Below m ps
+listed-below m [] t j h = absurd (omega arith)
+listed-below m (p ∷ ps) t zero h = ltb→lt p m (both (ltb p m) (allLt m ps) t .0)
+listed-below m (p ∷ ps) t (suc j) h = listed-below m ps (both (ltb p m) (allLt m ps) t .1) j (omega arith)
+
+beq-false : (b : Bool) → Bool·beq b false ≡ not b
+beq-false true = refl
+beq-false false = refl
+
+beq-true : (b : Bool) → Bool·beq b true ≡ b
+beq-true true = refl
+beq-true false = refl
+
+-- all bits at some places are zeros, or ones
+all-zeros : (g : Word) (ps : List ℕ) → all (λ p. Bool·beq (g p) false) ps ≡ all (λ p. not (g p)) ps
+all-zeros g ps = ap (λ (t : ℕ → Bool). all t ps) (fun-ext (λ p. beq-false (g p)))
+
+all-ones : (g : Word) (ps : List ℕ) → all (λ p. Bool·beq (g p) true) ps ≡ all g ps
+all-ones g ps = ap (λ (t : ℕ → Bool). all t ps) (fun-ext (λ p. beq-true (g p)))
+
+pub fixed-if : (g : Word) (zeros ones : List ℕ) → all (λ p. Bool·beq (g p) false) zeros ≡ true
+    → all (λ p. Bool·beq (g p) true) ones ≡ all (λ p. not (g p)) zeros && all g ones
+fixed-if g zeros ones h = all-ones g ones ∙ ap (λ (b : Bool). b && all g ones) (sym (sym (all-zeros g zeros) ∙ h))
+
+pub fixed-not : (g : Word) (zeros ones : List ℕ) → all (λ p. Bool·beq (g p) false) zeros ≡ false → false ≡ all (λ p. not (g p)) zeros && all g ones
+fixed-not g zeros ones h = ap (λ (b : Bool). b && all g ones) (sym (sym (all-zeros g zeros) ∙ h))
+
+-- where the fixed bits of the only pattern that can hold do not hold, none's do
+pub nowhere : (g : Word) (s : Pattern) → onlyPattern g ≡ s → fixed g s ≡ false → (t : Pattern) → fixed g t ≡ false
+nowhere g s e h t = go (fixed g t) refl
+  where
+    go : (b : Bool) → fixed g t ≡ b → fixed g t ≡ false
+    go false q = q
+    go true q = let r : s ≡ t = sym e ∙ one-pattern g t q in sym (ap (fixed g) r) ∙ h
+
+-- the only pattern that can hold, by the three bits as the code tests them
+module _ (g : Word) where
+  pub only-740 : g 2 ≡ true → onlyPattern g ≡ P740
+  only-740 a = rw a
+
+  pub only-670 : g 2 ≡ false → g 16 ≡ true → g 24 ≡ true → onlyPattern g ≡ P670
+  only-670 a b c = rw (a, b, c)
+
+  pub only-low : g 2 ≡ false → g 16 ≡ true → g 24 ≡ false → onlyPattern g ≡ Low
+  only-low a b c = rw (a, b, c)
+
+  pub only-hr : g 2 ≡ false → g 16 ≡ false → onlyPattern g ≡ Hr
+  only-hr a b = rw (a, b)
+
+-- a fact at every number below n, by one test that is computed
+abbrev everywhere : ℕ → (ℕ → Bool) → (ℕ → Bool) → Bool
+everywhere n t u = all (λ v. Bool·beq (t v) (u v)) (count n 0)
+
+beq-eq : (a b : Bool) → Bool·beq a b ≡ true → a ≡ b
+beq-eq true true h = refl
+beq-eq true false h = sym h
+beq-eq false true h = h
+beq-eq false false h = refl
+
+below-all : (n : ℕ) (t u : ℕ → Bool) → everywhere n t u ≡ true → (v : ℕ) → v < n → t v ≡ u v
+below-all n t u h v l = beq-eq (t v) (u v) (all-at (λ v. Bool·beq (t v) (u v)) (count n 0) v (elem-count v n 0 zero-le (omega arith)) h)
+
+-- the numbers of XC1..XC5 that are speech, as the code tests them
+pub up-number : (v : ℕ) → v < 32 → elem v (speechXc Uplink) ≡ cond (eqb (v / 4) 0) true (eqb (v / 8) 1)
+up-number v h = below-all 32 (λ v. elem v (speechXc Uplink)) (λ v. cond (eqb (v / 4) 0) true (eqb (v / 8) 1)) refl v h
+
+pub down-number : (v : ℕ) → v < 32 → elem v (speechXc Downlink) ≡ cond (eqb v 0) true (eqb v 2)
+down-number v h = below-all 32 (λ v. elem v (speechXc Downlink)) (λ v. cond (eqb v 0) true (eqb v 2)) refl v h
+
+-- C1..C3 of a No_Speech frame, as the code tests them
+no-speech-number : (v : ℕ) → v < 8 → elem v (0b100 ∷ 0b101 ∷ []) ≡ eqb (v / 2) 2
+no-speech-number v h = below-all 8 (λ v. elem v (0b100 ∷ 0b101 ∷ [])) (λ v. eqb (v / 2) 2) refl v h
+
+bit-lt : (b : Bool) → toN b < 2
+bit-lt true = omega arith
+bit-lt false = omega arith
+
+bit-is : (b : Bool) → eqb (toN b) 1 ≡ b
+bit-is true = refl
+bit-is false = refl
+
+-- parts of a field of five bits
+module _ (a b c d e : Bool) where
+  five-top : number (a ∷ b ∷ c ∷ d ∷ e ∷ []) / 4 ≡ number (a ∷ b ∷ c ∷ [])
+  five-top = omega (arith, bit-lt d, bit-lt e)
+
+  five-fourth : eqb (number (a ∷ b ∷ c ∷ d ∷ e ∷ []) / 2 % 2) 1 ≡ d
+  five-fourth = let f : number (a ∷ b ∷ c ∷ d ∷ e ∷ []) / 2 % 2 ≡ toN d = omega (arith, bit-lt d, bit-lt e) in rw f (bit-is d)
+
+  five-low : number (a ∷ b ∷ c ∷ d ∷ e ∷ []) % 4 ≡ number (d ∷ e ∷ [])
+  five-low = omega (arith, bit-lt d, bit-lt e)
+
+  three-lt : number (a ∷ b ∷ c ∷ []) < 8
+  three-lt = omega (arith, bit-lt a, bit-lt b, bit-lt c)
+
+  six-top : (f : Bool) → number (a ∷ b ∷ c ∷ d ∷ e ∷ f ∷ []) / 2 ≡ number (a ∷ b ∷ c ∷ d ∷ e ∷ [])
+  six-top f = omega (arith, bit-lt f)
+
+  five-lt : number (a ∷ b ∷ c ∷ d ∷ e ∷ []) < 32
+  five-lt = omega (arith, bit-lt a, bit-lt b, bit-lt c, bit-lt d, bit-lt e)
+
+and-false : (b : Bool) → b && false ≡ false
+and-false true = refl
+and-false false = refl
+
+pub and-not : (a b : Bool) → b ≡ false → a && b ≡ false
+and-not a b h = rw h (and-false a)
+
+pub and-left : (a b : Bool) → a ≡ false → a && b ≡ false
+and-left a b h = rw h
+
+-- XC1..XC6 packed in a field x
+module _ (g : Word) (x : ℕ) (packed : x ≡ number (bitsAt g xcPlaces)) where
+  xc-number : x / 2 ≡ number (g 14 ∷ g 15 ∷ g 18 ∷ g 19 ∷ g 20 ∷ [])
+  xc-number = rw packed (six-top (g 14) (g 15) (g 18) (g 19) (g 20) (g 21))
+
+  pub xc-lt : x / 2 < 32
+  xc-lt = rw xc-number (five-lt (g 14) (g 15) (g 18) (g 19) (g 20))
+
+  pub xc-odd : (vs : List ℕ) → odd (bitsAt g xcPlaces) ≡ true → elem (x / 2) vs ≡ xcCoded g vs
+  xc-odd vs h = rw (h, xc-number)
+
+  pub xc-even : (vs : List ℕ) → odd (bitsAt g xcPlaces) ≡ false → false ≡ xcCoded g vs
+  xc-even vs h = rw h
+
+-- C1..C5 of the HR pattern packed in a field c
+module _ (d : Direction) (g : Word) where
+  pub hr-odd-not : odd (bitsAt g (cPlaces Hr)) ≡ false → (t : ℕ) → hrCoded d g t ≡ false
+  hr-odd-not h t = rw h (and-false (eqb (c1to3 g Hr) t && c4Coded d (c4 g)))
+
+  pub hr-c4-not : c4Coded d (c4 g) ≡ false → (t : ℕ) → hrCoded d g t ≡ false
+  hr-c4-not h t = rw (h, and-false (eqb (c1to3 g Hr) t))
+
+  hr-type-not : (t : ℕ) → (c1to3 g Hr ≡ t → ⊥) → hrCoded d g t ≡ false
+  hr-type-not t h = rw (ne-eqb (c1to3 g Hr) t h)
+
+  hr-holds : (t : ℕ) → c1to3 g Hr ≡ t → c4Coded d (c4 g) ≡ true → odd (bitsAt g (cPlaces Hr)) ≡ true → hrCoded d g t ≡ true
+  hr-holds t e h k = rw (eq-eqb (c1to3 g Hr) t e, h, k)
+
+  -- no coding of the four kinds holds
+  pub hr-nothing : hrCoded d g 0 && xcCoded g (speechXc d) ≡ false → hrCoded d g 1 ≡ false → hrCoded d g 2 && xcCoded g (31 ∷ []) ≡ false → hrCoded d g 7 ≡ false
+      → (k : Kind) → patternOf k ≡ Hr → coded d g k ≡ false
+  hr-nothing a b c e Speech h = a
+  hr-nothing a b c e Data h = b
+  hr-nothing a b c e Om h = c
+  hr-nothing a b c e Configuration h = e
+  hr-nothing a b c e NoSpeech h = cc
+  hr-nothing a b c e Lower h = cc
+  hr-nothing a b c e Amr670 h = cc
+  hr-nothing a b c e Amr740 h = cc
+
+  pub hr-none : ((t : ℕ) → hrCoded d g t ≡ false) → (k : Kind) → patternOf k ≡ Hr → coded d g k ≡ false
+  hr-none h = hr-nothing (rw (h 0)) (h 1) (rw (h 2)) (h 7)
+
+  module _ (c : ℕ) (packed : c ≡ number (bitsAt g (cPlaces Hr))) where
+    hr-number : c1to3 g Hr ≡ c / 4
+    hr-number = sym (rw packed (five-top (g 9) (g 10) (g 11) (g 12) (g 13)))
+
+    pub hr-fourth : eqb (c / 2 % 2) 1 ≡ c4 g
+    hr-fourth = rw packed (five-fourth (g 9) (g 10) (g 11) (g 12) (g 13))
+
+    pub hr-other : (t : ℕ) → (c / 4 ≡ t → ⊥) → hrCoded d g t ≡ false
+    hr-other t h = hr-type-not t (λ e. h (sym hr-number ∙ e))
+
+    pub hr-this : (t : ℕ) → c / 4 ≡ t → c4Coded d (eqb (c / 2 % 2) 1) ≡ true → odd (bitsAt g (cPlaces Hr)) ≡ true → hrCoded d g t ≡ true
+    hr-this t e h k = hr-holds t (hr-number ∙ e) (ap (c4Coded d) (sym hr-fourth) ∙ h) k
+
+    pub hr-c4 : c4Coded d (eqb (c / 2 % 2) 1) ≡ false → (t : ℕ) → hrCoded d g t ≡ false
+    hr-c4 h = hr-c4-not (ap (c4Coded d) (sym hr-fourth) ∙ h)
+
+-- C1..C5 of the Low pattern packed in a field c
+module _ (d : Direction) (g : Word) (c : ℕ) (packed : c ≡ number (bitsAt g (cPlaces Low))) where
+  low-class : c4to5 g ≡ c % 4
+  low-class = sym (rw packed (five-low (g 17) (g 18) (g 19) (g 20) (g 21)))
+
+  low-number : c1to3 g Low ≡ c / 4
+  low-number = sym (rw packed (five-top (g 17) (g 18) (g 19) (g 20) (g 21)))
+
+  low-lt : c1to3 g Low < 8
+  low-lt = three-lt (g 17) (g 18) (g 19) (g 20) (g 21)
+
+  pub low-lower : (c % 4 ≡ 0 → ⊥) → coded d g Lower ≡ true
+  low-lower h = rw (ne-eqb (c4to5 g) 0 (λ e. h (sym low-class ∙ e)))
+
+  pub low-no-speech : c % 4 ≡ 0 → c / 8 ≡ 2 → coded d g NoSpeech ≡ true
+  low-no-speech h e =
+      let v : c1to3 g Low / 2 ≡ 2 = rw low-number (omega arith) in
+      and-both _ _ (eq-eqb (c4to5 g) 0 (low-class ∙ h)) (no-speech-number (c1to3 g Low) low-lt ∙ eq-eqb (c1to3 g Low / 2) 2 v)
+
+  pub low-nothing : c % 4 ≡ 0 → (c / 8 ≡ 2 → ⊥) → (k : Kind) → patternOf k ≡ Low → coded d g k ≡ false
+  low-nothing h e Speech p = cc
+  low-nothing h e Data p = cc
+  low-nothing h e Om p = cc
+  low-nothing h e Configuration p = cc
+  low-nothing h e NoSpeech p =
+      let v : (c1to3 g Low / 2 ≡ 2 → ⊥) = λ (q : c1to3 g Low / 2 ≡ 2). e (omega (arith, low-number)) in
+      rw (no-speech-number (c1to3 g Low) low-lt, ne-eqb (c1to3 g Low / 2) 2 v) (and-false (eqb (c4to5 g) 0))
+  low-nothing h e Lower p = rw (eq-eqb (c4to5 g) 0 (low-class ∙ h))
+  low-nothing h e Amr670 p = cc
+  low-nothing h e Amr740 p = cc
+
+-- a kind of the pattern that holds is the kind
+pub kind-in : (d : Direction) (g : Word) (t : Pattern) (r : Found) → fixed g t ≡ true → Coded d g t r → KindOf d g r
+kind-in d g t (Is k) f h = rw (h .0, f, h .1)
+kind-in d g t Nothing f h = λ k. go k (fixed g (patternOf k)) refl
+  where
+    go : (k : Kind) (b : Bool) → fixed g (patternOf k) ≡ b → b && coded d g k ≡ false
+    go k true e = h k (sym (one-pattern g (patternOf k) e) ∙ one-pattern g t f)
+    go k false e = refl
+
+pub kind-nowhere : (d : Direction) (g : Word) → ((t : Pattern) → fixed g t ≡ false) → KindOf d g Nothing
+kind-nowhere d g h k = rw (h (patternOf k))
+
+never : true ≡ false → ⊥
+never e = let z : _≡_ {A = ℕ} 0 1 = cc in omega arith
+
+-- no second answer fits
+pub kind-one : (d : Direction) (g : Word) (r s : Found) → KindOf d g r → KindOf d g s → r ≡ s
+kind-one d g (Is j) (Is k) a b = ap Is (one-body d g j k a b)
+kind-one d g (Is j) Nothing a b = absurd (never (sym a ∙ b j))
+kind-one d g Nothing (Is k) a b = absurd (never (sym b ∙ a k))
+kind-one d g Nothing Nothing a b = refl
+
+pub one-elem : (v w : ℕ) → eqb v w ≡ elem v (w ∷ [])
+one-elem v w = go (eqb v w)
+  where
+    go : (b : Bool) → b ≡ cond b true false
+    go true = refl
+    go false = refl
+
+-- the pattern that was found, and which it is
+pub held-in : (g : Word) (s : Sync) (t u : Pattern) → Held g s → s ≡ In t → t ≡ u → fixed g u ≡ true
+held-in g s t u h e q = let h′ : Held g (In t) = rw e at h in rw (← q) h′
+
+pub held-nowhere : (g : Word) (s : Sync) → Held g s → s ≡ Nowhere → (t : Pattern) → fixed g t ≡ false
+held-nowhere g s h e = let h′ : Held g Nowhere = rw e at h in h′

@@ -1,0 +1,90 @@
+-- How the code's modes, verdicts and wrong CRCs come to the definitions.
+-- Assumes nothing.
+use mathlib.Core.Path.{_≡_, refl, sym, _∙_, ap}
+use mathlib.Core.Bool.{Bool, true, false, not}
+use mathlib.Core.List.{List, [], _∷_}
+use Prim.Native.Nat.{ℕ, zero, suc, _+_, _*_, _^_, _<_, _≤_}
+use native.Mathlib.Omega.{arith}
+use native.Mathlib.Nat.{pow-suc}
+use borrow.Author.Tests.{eq-eqb, ne-eqb}
+use lib.Dec.{eqb}
+use lib.ListN.{length, getD, List·getD-eq-default}
+use Rattle.bits.specs.Bit.{toN}
+use Rattle.channel.specs.declared.Pattern.the-variants.{Low}
+use Rattle.channel.specs.declared.Kind.{Kind}
+use Rattle.channel.specs.declared.Kind.the-variants.{Lower}
+use Rattle.channel.specs.Coding.{Word, c1to3}
+use Rattle.channel.specs.Crc.{right}
+use Rattle.channel.specs.Checks.{checks, checksLower}
+use Rattle.channel.specs.Verdict.{ownMode, contextMode, modeOf, unchecked, wrongs, verdictOf}
+
+-- the mode that C1..C3 name, by their number c
+module _ (g : Word) (c : ℕ) (read : c ≡ c1to3 g Low) where
+  pub own-named : (i : ℕ) → c ≡ i → getD (1 ∷ 2 ∷ 3 ∷ []) i 0 ≡ ownMode g
+  own-named i e = ap (λ (n : ℕ). getD (1 ∷ 2 ∷ 3 ∷ []) n 0) (sym e ∙ read)
+
+  pub own-none : (c ≡ 0 → ⊥) → (c ≡ 1 → ⊥) → (c ≡ 2 → ⊥) → 0 ≡ ownMode g
+  own-none x y z =
+      let h : 3 ≤ c = omega arith in
+      sym (ap (λ (n : ℕ). getD (1 ∷ 2 ∷ 3 ∷ []) n 0) (sym read) ∙ List·getD-eq-default {A = ℕ} (1 ∷ 2 ∷ 3 ∷ []) 0 {n = c} h)
+
+-- the contexts that hold no mode
+pub context-none : (x : ℕ) → (x ≡ 3 → ⊥) → (x ≡ 4 → ⊥) → (x ≡ 5 → ⊥) → 0 ≡ contextMode x
+context-none zero a b c = refl
+context-none (suc zero) a b c = refl
+context-none (suc (suc zero)) a b c = refl
+context-none (suc (suc (suc zero))) a b c = absurd (a refl)
+context-none (suc (suc (suc (suc zero)))) a b c = absurd (b refl)
+context-none (suc (suc (suc (suc (suc zero))))) a b c = absurd (c refl)
+context-none (suc (suc (suc (suc (suc (suc x)))))) a b c = refl
+
+-- a mode is 3 at most
+named-le : (i : ℕ) → getD (1 ∷ 2 ∷ 3 ∷ []) i 0 ≤ 3
+named-le zero = omega arith
+named-le (suc zero) = omega arith
+named-le (suc (suc zero)) = omega arith
+named-le (suc (suc (suc i))) = omega arith
+
+pub own-le : (g : Word) → ownMode g ≤ 3
+own-le g = named-le (c1to3 g Low)
+
+pub context-le : (x : ℕ) → contextMode x ≤ 3
+context-le zero = omega arith
+context-le (suc zero) = omega arith
+context-le (suc (suc zero)) = omega arith
+context-le (suc (suc (suc x))) = named-le x
+
+-- a kind 6 has its own mode, else the context's
+pub mode-context : (x : ℕ) (g : Word) (own : ℕ) → own ≡ ownMode g → own ≡ 0 → contextMode x ≡ modeOf x g Lower
+mode-context x g own e h = rw (eq-eqb (ownMode g) 0 (sym e ∙ h))
+
+pub mode-own : (x : ℕ) (g : Word) (own : ℕ) → own ≡ ownMode g → (own ≡ 0 → ⊥) → own ≡ modeOf x g Lower
+mode-own x g own e h = rw (ne-eqb (ownMode g) 0 (λ z. h (e ∙ z))) e
+
+-- one bit for each wrong CRC
+pub wrong-le : (b : Bool) → toN b ≤ 1
+wrong-le true = omega arith
+wrong-le false = omega arith
+
+wrongs-lt : (g : Word) (cs : List (List ℕ)) → wrongs g cs < 2 ^ length cs
+wrongs-lt g [] = omega arith
+wrongs-lt g (ps ∷ cs) = rw pow-suc (omega (arith, wrongs-lt g cs, wrong-le (not (right g ps))))
+
+pub lower-lt : (g : Word) (mode : ℕ) → length (checksLower mode) ≡ 4 → wrongs g (checksLower mode) < 16
+lower-lt g mode e = rw e at (wrongs-lt g (checksLower mode))
+
+pub four-wrongs : (g : Word) (ps qs rs ss : List ℕ) (a b c d : Bool) → a ≡ right g ps → b ≡ right g qs → c ≡ right g rs → d ≡ right g ss
+    → toN (not a) + 2 * toN (not b) + 4 * toN (not c) + 8 * toN (not d) ≡ wrongs g (ps ∷ qs ∷ rs ∷ ss ∷ [])
+four-wrongs g ps qs rs ss a b c d p q r s = rw (p, q, r, s) (omega arith)
+
+pub one-wrong : (g : Word) (ps : List ℕ) (a : Bool) → a ≡ right g ps → toN (not a) ≡ wrongs g (ps ∷ [])
+one-wrong g ps a p = rw p (omega arith)
+
+-- the verdict of a kind with one CRC
+pub one-verdict : (x : ℕ) (g : Word) (k : Kind) (ps : List ℕ) (a : Bool) → unchecked x g k ≡ false → modeOf x g k ≡ 0 → checks 0 k ≡ ps ∷ [] → a ≡ right g ps → toN (not a) ≡ verdictOf x g k
+unfolding verdictOf
+one-verdict x g k ps a u m c p = rw (u, m, c) (omega (arith, one-wrong g ps a p))
+
+pub lower-verdict : (x : ℕ) (g : Word) (mode r : ℕ) → mode ≡ modeOf x g Lower → r ≡ 128 * toN (eqb mode 0) + 16 * mode + wrongs g (checksLower mode) → r ≡ verdictOf x g Lower
+unfolding verdictOf checks
+lower-verdict x g mode r m e = e ∙ ap (λ (n : ℕ). 128 * toN (eqb n 0) + 16 * n + wrongs g (checksLower n)) m

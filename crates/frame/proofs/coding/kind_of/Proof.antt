@@ -1,0 +1,79 @@
+-- `frame::coding::kind_of` meets its contract: the kind of the pattern that holds.
+-- Assumes nothing.
+use Rattle.channel.specs.declared.Pattern.the-variants.{P670, P740}
+use Rattle.channel.specs.declared.Kind.the-variants.{Amr670, Amr740}
+use Rattle.frame.specs.declared.coding.Found.the-variants.{Is}
+use Rattle.frame.proofs.CodingLaws.{held-in, held-nowhere}
+use mathlib.Core.Path.{_≡_, refl, sym, _∙_, ap}
+use native.Mathlib.Omega.{arith}
+use borrow.Author.Tests.{eq-eqb, ne-eqb}
+use Rattle.bits.specs.Bit.{bitAt}
+use Rattle.channel.specs.Coding.{bitsAt}
+use Rattle.channel.specs.Places.{xcPlaces, cPlaces}
+use Rattle.channel.specs.Coding.{speechXc}
+use Rattle.channel.specs.declared.Pattern.the-variants.{Hr, Low}
+use Rattle.frame.proofs.CodingLaws.{kind-in, kind-nowhere}
+use borrow.Author.Needs.{needs}
+use Rattle.frame.proofs.coding.kind_of.Statement.{statement}
+use Rattle.frame.proofs.coding.kind_of.Tie as tie
+
+pattern-of-requires : tie.Need-pattern-of-requires
+pattern-of-requires c κs = search needs
+
+enum-known-t : tie.Need-enum-known-t
+enum-known-t c = search needs
+
+enum-told : tie.Need-enum-told
+enum-told c = search needs
+
+hr-kind-requires : tie.Need-hr-kind-requires
+hr-kind-requires c κs = search needs
+
+enum-told-2 : tie.Need-enum-told-2
+enum-told-2 c = search needs
+
+low-kind-requires : tie.Need-low-kind-requires
+low-kind-requires c κs = search needs
+
+enum-told-3 : tie.Need-enum-told-3
+enum-told-3 c = search needs
+
+enum-told-4 : tie.Need-enum-told-4
+enum-told-4 c = search needs
+
+enum-told-5 : tie.Need-enum-told-5
+enum-told-5 c = search needs
+
+returns : tie.Need-returns
+returns c = kind-in (c .before .before .before .before .before .before .before .args .d) (bitAt (c .before .before .before .before .before .before .before .args .o)) Hr (c .hr-kind .result) (held-in (bitAt (c .before .before .before .before .before .before .before .args .o)) (c .before .before .before .before .before .before .pattern-of .result) (c .before .before .before .before .t .given .0 .0) Hr (c .before .before .before .before .before .before .pattern-of .ensures) (c .before .before .before .before .t .given .1) (c .before .enum-told .given .1)) (c .hr-kind .ensures)
+
+returns-2 : tie.Need-returns-2
+returns-2 c = kind-in (c .before .before .before .before .before .before .before .args .d) (bitAt (c .before .before .before .before .before .before .before .args .o)) Low (c .low-kind .result) (held-in (bitAt (c .before .before .before .before .before .before .before .args .o)) (c .before .before .before .before .before .before .pattern-of .result) (c .before .before .before .before .t .given .0 .0) Low (c .before .before .before .before .before .before .pattern-of .ensures) (c .before .before .before .before .t .given .1) (c .before .enum-told2 .given .1)) (c .low-kind .ensures)
+
+returns-3 : tie.Need-returns-3
+returns-3 c = kind-in (c .before .before .before .before .before .before .args .d) (bitAt (c .before .before .before .before .before .before .args .o)) P670 (Is Amr670) (held-in (bitAt (c .before .before .before .before .before .before .args .o)) (c .before .before .before .before .before .pattern-of .result) (c .before .before .before .t .given .0 .0) P670 (c .before .before .before .before .before .pattern-of .ensures) (c .before .before .before .t .given .1) (c .enum-told3 .given .1)) (refl, refl)
+
+returns-4 : tie.Need-returns-4
+returns-4 c = kind-in (c .before .before .before .before .before .before .args .d) (bitAt (c .before .before .before .before .before .before .args .o)) P740 (Is Amr740) (held-in (bitAt (c .before .before .before .before .before .before .args .o)) (c .before .before .before .before .before .pattern-of .result) (c .before .before .before .t .given .0 .0) P740 (c .before .before .before .before .before .pattern-of .ensures) (c .before .before .before .t .given .1) (c .enum-told4 .given .1)) (refl, refl)
+
+returns-5 : tie.Need-returns-5
+returns-5 c = kind-nowhere (c .before .before .before .args .d) (bitAt (c .before .before .before .args .o)) (held-nowhere (bitAt (c .before .before .before .args .o)) (c .before .before .pattern-of .result) (c .before .before .pattern-of .ensures) (c .enum-told5 .given .1))
+
+pub kind-of-spec : {M : Type 1} → statement M
+kind-of-spec =
+    tie.close
+    (tie.spec
+    pattern-of-requires
+    enum-known-t
+    enum-told
+    hr-kind-requires
+    enum-told-2
+    low-kind-requires
+    enum-told-3
+    enum-told-4
+    enum-told-5
+    returns
+    returns-2
+    returns-3
+    returns-4
+    returns-5)

@@ -1,0 +1,43 @@
+-- `frame::coding::speech_xc` meets its contract.
+-- Assumes nothing.
+use mathlib.Core.Path.{_≡_, refl, sym, _∙_, ap}
+use native.Mathlib.Omega.{arith}
+use borrow.Author.Tests.{eq-eqb, ne-eqb}
+use Rattle.bits.specs.Bit.{bitAt}
+use Rattle.channel.specs.Coding.{bitsAt}
+use Rattle.channel.specs.Places.{xcPlaces, cPlaces}
+use Rattle.channel.specs.Coding.{speechXc}
+use Rattle.channel.specs.declared.Pattern.the-variants.{Hr, Low}
+use Rattle.frame.proofs.CodingLaws.{listed-below, xc-lt, xc-odd, xc-even}
+use borrow.Author.Needs.{needs}
+use Rattle.frame.proofs.coding.speech_xc.Statement.{statement}
+use Rattle.frame.proofs.coding.speech_xc.Tie as tie
+
+slice-aggregate-packed : tie.Need-slice-aggregate-packed
+slice-aggregate-packed c = search needs
+
+packed-requires : tie.Need-packed-requires
+packed-requires c κs = (listed-below 160 xcPlaces tt, omega arith)
+
+odd-ones-requires : tie.Need-odd-ones-requires
+odd-ones-requires c κs = search needs
+
+speech-number-requires : tie.Need-speech-number-requires
+speech-number-requires c κs = xc-lt (bitAt (c .before .before .before .before .args .o)) (c .before .before .packed .result) (c .before .before .packed .ensures)
+
+returns : tie.Need-returns
+returns c = c .speech-number .ensures ∙ xc-odd (bitAt (c .before .before .before .before .before .args .o)) (c .before .before .before .packed .result) (c .before .before .before .packed .ensures) (speechXc (c .before .before .before .before .before .args .d)) (sym (c .before .before .odd-ones .ensures (bitsAt (bitAt (c .before .before .before .before .before .args .o)) xcPlaces) (c .before .before .before .packed .ensures)) ∙ c .before .if1 .taken)
+
+returns-2 : tie.Need-returns-2
+returns-2 c = xc-even (bitAt (c .before .before .before .before .args .o)) (c .before .before .packed .result) (c .before .before .packed .ensures) (speechXc (c .before .before .before .before .args .d)) (sym (c .before .odd-ones .ensures (bitsAt (bitAt (c .before .before .before .before .args .o)) xcPlaces) (c .before .before .packed .ensures)) ∙ c .if1 .left)
+
+pub speech-xc-spec : {M : Type 1} → statement M
+speech-xc-spec =
+    tie.close
+    (tie.spec
+    slice-aggregate-packed
+    packed-requires
+    odd-ones-requires
+    speech-number-requires
+    returns
+    returns-2)

@@ -1,0 +1,27 @@
+-- `kinds::allowed_in` meets its contract.
+-- Assumes nothing.
+use mathlib.Core.Bool.{Bool, cond}
+use Rattle.channel.specs.Verdict.{startsBy, follows}
+use mathlib.Core.Path.{_≡_, refl, sym, _∙_, ap}
+use Prim.Native.Nat.{_+_, _*_, _%_}
+use native.Mathlib.Omega.{arith}
+use Rattle.bits.specs.Bit.{bitAt, toN}
+use borrow.Author.Tests.{eq-eqb, ne-eqb}
+use borrow.Author.Needs.{needs}
+use Rattle.kinds.proofs.allowed_in.Statement.{statement}
+use Rattle.kinds.proofs.allowed_in.Tie as tie
+
+starts-requires : tie.Need-starts-requires
+starts-requires c κs = search needs
+
+follows-in-requires : tie.Need-follows-in-requires
+follows-in-requires c κs = search needs
+
+returns : tie.Need-returns
+returns c = rw (eq-eqb (c .before .before .args .x) 0 (c .before .if1 .taken)) (c .starts .ensures)
+
+returns-2 : tie.Need-returns-2
+returns-2 c = c .follows-in .ensures ∙ sym (ap (λ (b : Bool). cond b (startsBy (c .before .before .args .k) (c .before .before .args .v)) (follows (c .before .before .args .x) (c .before .before .args .k))) (ne-eqb (c .before .before .args .x) 0 (c .before .if1 .left)))
+
+pub allowed-in-spec : {M : Type 1} → statement M
+allowed-in-spec = tie.close (tie.spec starts-requires follows-in-requires returns returns-2)

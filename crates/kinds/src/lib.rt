@@ -1,0 +1,111 @@
+// The table of kinds, and which kinds may be items in a context.
+ghost use mathlib.Core.Path.{_≡_};
+ghost use mathlib.Core.Bool.{cond};
+ghost use lib.Dec.{eqb};
+ghost use Rattle.channel.specs.Kinds.{kindNo, bodyOf, leastTail};
+ghost use Rattle.channel.specs.Verdict.{startsBy, follows};
+use channel::Direction;
+use channel::Kind;
+
+// The number of a kind.
+pub fn number(k: Kind) -> u8
+    ensures { λ r. ⌜ r ≡ kindNo k ⌝ }
+{
+    match k {
+        Kind::Speech => 1,
+        Kind::Data => 2,
+        Kind::Om => 3,
+        Kind::Configuration => 4,
+        Kind::NoSpeech => 5,
+        Kind::Lower => 6,
+        Kind::Amr670 => 7,
+        Kind::Amr740 => 8,
+    }
+}
+
+// How many bits the body of a kind has.
+pub fn body(k: Kind) -> usize
+    ensures { λ r. ⌜ r ≡ bodyOf k ⌝ }
+{
+    match k {
+        Kind::Speech => 158,
+        Kind::Data => 159,
+        Kind::Om => 159,
+        Kind::Configuration => 158,
+        Kind::NoSpeech => 158,
+        Kind::Lower => 159,
+        Kind::Amr670 => 160,
+        Kind::Amr740 => 160,
+    }
+}
+
+// How many ones must follow the body of a kind.
+pub fn least_tail(d: Direction, k: Kind) -> usize
+    ensures { λ r. ⌜ r ≡ leastTail d k ⌝ }
+{
+    match d {
+        Direction::Uplink => match k {
+            Kind::Speech => 1,
+            Kind::Data => 1,
+            Kind::Om => 1,
+            Kind::Configuration => 2, // T1 and T2 (house)
+            Kind::NoSpeech => 1,
+            Kind::Lower => 0,
+            Kind::Amr670 => 0,
+            Kind::Amr740 => 0,
+        },
+        Direction::Downlink => match k {
+            Kind::Speech => 0,
+            Kind::Data => 1,
+            Kind::Om => 1,
+            Kind::Configuration => 2, // T1 and T2 in downlink too (house)
+            Kind::NoSpeech => 0,
+            Kind::Lower => 0,
+            Kind::Amr670 => 0,
+            Kind::Amr740 => 0,
+        },
+    }
+}
+
+// Whether a kind with a verdict of context 0 starts a run.
+fn starts(k: Kind, v: u8) -> bool
+    ensures { λ r. ⌜ r ≡ startsBy k v ⌝ }
+{
+    match k {
+        Kind::Speech => v % 16 == 0,
+        Kind::Data => v % 16 == 0,
+        Kind::Om => v % 16 == 0,
+        Kind::Configuration => v % 16 == 0,
+        Kind::NoSpeech => v % 16 == 0,
+        Kind::Lower => if v % 16 == 0 { v < 128 } else { false },
+        Kind::Amr670 => v % 16 == 0,
+        Kind::Amr740 => false,
+    }
+}
+
+// Whether a kind follows in a context.
+fn follows_in(k: Kind, x: u8) -> bool
+    ensures { λ r. ⌜ r ≡ follows x k ⌝ }
+{
+    match k {
+        Kind::Speech => x != 0,
+        Kind::Data => x != 0,
+        Kind::Om => x != 0,
+        Kind::Configuration => x != 0,
+        Kind::NoSpeech => x != 0,
+        Kind::Lower => x != 0,
+        Kind::Amr670 => x != 0,
+        Kind::Amr740 => 2 <= x,
+    }
+}
+
+// Rule 2: whether a kind with its verdict may be an item in a context: in context 0 one that starts a run, in any other one that follows.
+pub fn allowed_in(k: Kind, x: u8, v: u8) -> bool
+    ensures { λ r. ⌜ r ≡ cond (eqb x 0) (startsBy k v) (follows x k) ⌝ }
+{
+    if x == 0 {
+        starts(k, v)
+    } else {
+        follows_in(k, x)
+    }
+}

@@ -1,0 +1,112 @@
+-- A turn of each loop over a list of places: what is left of the list, from what is held so far. Counts of ones of a packed field.
+-- Assumes nothing.
+use mathlib.Core.Path.{_≡_, refl, sym, _∙_, ap, ap₂}
+use mathlib.Core.Bool.{Bool, true, false, not, _&&_, Bool·beq}
+use mathlib.Core.List.{List, [], _∷_, map}
+use Prim.Native.Nat.{ℕ, zero, suc, _+_, _*_, _/_, _%_, _^_, _<_, _≤_}
+use native.Mathlib.Omega.{arith}
+use native.Mathlib.Nat.{zero-add, pow-suc}
+use native.Mathlib.Numerals.{add-one}
+use borrow.Author.Tests.{not-true, not-false}
+use lib.Count as Count
+use lib.Dec.{eqb}
+use lib.ListN.{length, getD, drop, drop-of-length-le}
+use lib.Seq.{drop-cons}
+use Rattle.bits.specs.Bit.{toN, numberFrom, number}
+use Rattle.channel.specs.Poly.{_⊕_, Rem}
+use Rattle.channel.specs.Coding.{Word, bitsAt, all, ones, odd}
+use Rattle.channel.specs.Crc.{push, remFrom, rem, right}
+
+module _ (ps : List ℕ) (j : ℕ) where
+  -- a test over the places
+  pub all-turn : (t : ℕ → Bool) → j < length ps → all t (drop j ps) ≡ t (getD ps j 0) && all t (drop (j + 1) ps)
+  all-turn t h = rw (add-one, drop-cons ps j 0 h)
+
+  pub all-end : (t : ℕ → Bool) → length ps ≤ j → all t (drop j ps) ≡ true
+  all-end t h = rw (drop-of-length-le ps h)
+
+  -- a field packed of the places
+  pub number-turn : (g : Word) (a : ℕ) → j < length ps → numberFrom a (bitsAt g (drop j ps)) ≡ numberFrom (2 * a + toN (g (getD ps j 0))) (bitsAt g (drop (j + 1) ps))
+  number-turn g a h = rw (add-one, drop-cons ps j 0 h)
+
+  pub number-end : (g : Word) (a : ℕ) → length ps ≤ j → numberFrom a (bitsAt g (drop j ps)) ≡ a
+  number-end g a h = rw (drop-of-length-le ps h)
+
+  -- the remainder over the places
+  pub rem-turn : (g : Word) (r : Rem) → j < length ps → remFrom r (bitsAt g (drop j ps)) ≡ remFrom (push r (g (getD ps j 0))) (bitsAt g (drop (j + 1) ps))
+  rem-turn g r h = rw (add-one, drop-cons ps j 0 h)
+
+  pub rem-end : (g : Word) (r : Rem) → length ps ≤ j → remFrom r (bitsAt g (drop j ps)) ≡ r
+  rem-end g r h = rw (drop-of-length-le ps h)
+
+-- what a bit that was compared with a value says of the test over all the places
+module _ (g : Word) (value : Bool) (ps : List ℕ) (j : ℕ) (b : Bool) (within : j < length ps) (so-far : all (λ p. Bool·beq (g p) value) ps ≡ all (λ p. Bool·beq (g p) value) (drop j ps)) (read : b ≡ g (getD ps j 0)) where
+  pub all-stops : not (Bool·beq b value) ≡ true → false ≡ all (λ p. Bool·beq (g p) value) ps
+  all-stops h =
+      let e : Bool·beq (g (getD ps j 0)) value ≡ false = rw read at (not-true (Bool·beq b value) h) in
+      sym (so-far ∙ all-turn ps j (λ p. Bool·beq (g p) value) within ∙ ap (λ (t : Bool). t && all (λ p. Bool·beq (g p) value) (drop (j + 1) ps)) e)
+
+  pub all-goes : not (Bool·beq b value) ≡ false → all (λ p. Bool·beq (g p) value) ps ≡ all (λ p. Bool·beq (g p) value) (drop (j + 1) ps)
+  all-goes h =
+      let e : Bool·beq (g (getD ps j 0)) value ≡ true = rw read at (not-false (Bool·beq b value) h) in
+      so-far ∙ all-turn ps j (λ p. Bool·beq (g p) value) within ∙ ap (λ (t : Bool). t && all (λ p. Bool·beq (g p) value) (drop (j + 1) ps)) e
+
+-- a remainder held as three bools, and a turn of it as the code makes it
+abbrev pub held : Bool → Bool → Bool → Rem
+held a b c = record { r2 = a; r1 = b; r0 = c }
+
+differ : (a b : Bool) → a ⊕ b ≡ not (Bool·beq a b)
+differ true true = refl
+differ true false = refl
+differ false true = refl
+differ false false = refl
+
+pub held-turn : (a b c e : Bool) → push (held a b c) e ≡ held b (not (Bool·beq c a)) (not (Bool·beq e a))
+held-turn a b c e i = record { r2 = b; r1 = differ c a i; r0 = differ e a i }
+
+pub rem-goes : (g : Word) (ps : List ℕ) (j : ℕ) (a b c e : Bool) → j < length ps → rem (bitsAt g ps) ≡ remFrom (held a b c) (bitsAt g (drop j ps)) → e ≡ g (getD ps j 0)
+    → rem (bitsAt g ps) ≡ remFrom (held b (not (Bool·beq c a)) (not (Bool·beq e a))) (bitsAt g (drop (j + 1) ps))
+rem-goes g ps j a b c e h so-far read =
+    so-far ∙ rem-turn ps j g (held a b c) h ∙ ap (λ (t : Bool). remFrom (push (held a b c) t) (bitsAt g (drop (j + 1) ps))) (sym read)
+    ∙ ap (λ (r : Rem). remFrom r (bitsAt g (drop (j + 1) ps))) (held-turn a b c e)
+
+-- at the end the three bools are the remainder
+pub rem-right : (g : Word) (ps : List ℕ) (j : ℕ) (a b c : Bool) → length ps ≤ j → rem (bitsAt g ps) ≡ remFrom (held a b c) (bitsAt g (drop j ps)) → a && b && c ≡ right g ps
+unfolding right
+rem-right g ps j a b c h so-far = ap (λ (r : Rem). r .r2 && r .r1 && r .r0) (sym (so-far ∙ rem-end ps j g (held a b c) h))
+
+-- a bit read and put behind the field
+pub number-goes : (g : Word) (ps : List ℕ) (j field : ℕ) (b : Bool) (next : ℕ) → j < length ps → number (bitsAt g ps) ≡ numberFrom field (bitsAt g (drop j ps)) → b ≡ g (getD ps j 0) → next ≡ 2 * field + toN b
+    → number (bitsAt g ps) ≡ numberFrom next (bitsAt g (drop (j + 1) ps))
+number-goes g ps j field b next h so-far read put = rw (put, read) (so-far ∙ number-turn ps j g field h)
+
+pub field-grows : (field j : ℕ) (b : Bool) (next : ℕ) → field < 2 ^ j → next ≡ 2 * field + toN b → next < 2 ^ (j + 1)
+field-grows field j b next h put = rw (add-one, pow-suc) (omega (arith, bit-lt b))
+  where
+    bit-lt : (b : Bool) → toN b < 2
+    bit-lt true = omega arith
+    bit-lt false = omega arith
+
+-- a bit behind a field: its digits
+bit-last : (a : ℕ) (b : Bool) → Count.ones (2 * a + toN b) ≡ Count.ones a + toN b
+bit-last a b =
+    let m : (2 * a + toN b) % 2 ≡ toN b = last b in
+    let d : (2 * a + toN b) / 2 ≡ a = rest b in
+    Count.ones-step (2 * a + toN b) ∙ rw (m, d) (omega arith)
+  where
+    last : (b : Bool) → (2 * a + toN b) % 2 ≡ toN b
+    last true = omega arith
+    last false = omega arith
+
+    rest : (b : Bool) → (2 * a + toN b) / 2 ≡ a
+    rest true = omega arith
+    rest false = omega arith
+
+ones-from : (bs : List Bool) (a : ℕ) → Count.ones (numberFrom a bs) ≡ Count.ones a + ones bs
+ones-from [] a = omega arith
+ones-from (b ∷ bs) a = omega (arith, ones-from bs (2 * a + toN b), bit-last a b)
+
+-- the language's count of ones, on a field packed of bits, is the number of ones among them
+pub ones-packed : (bs : List Bool) → Count.ones (number bs) ≡ ones bs
+unfolding Count.ones Count.onesIn
+ones-packed bs = ones-from bs 0 ∙ zero-add (ones bs)

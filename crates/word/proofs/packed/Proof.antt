@@ -1,0 +1,65 @@
+-- `word::packed` meets its contract: the number of all the bits is that of those that are left, behind the field held.
+-- Assumes nothing.
+use mathlib.Core.Path.{_≡_, refl, sym, _∙_, ap}
+use Prim.Native.Nat.{_+_, _*_, _-_, _^_, _≤_, _<_}
+use native.Mathlib.Omega.{arith}
+use borrow.Author.Needs.{needs}
+use lib.Dec.{lit<}
+use lib.ListN.{length, getD, drop}
+use lib.Pow.{pow-mono}
+use Rattle.bits.specs.Bit.{bitAt, toN, numberFrom, number}
+use Rattle.channel.specs.Coding.{bitsAt}
+use Rattle.word.proofs.WordLaws.{number-goes, number-end, field-grows}
+use Rattle.word.proofs.packed.Statement.{statement}
+use Rattle.word.proofs.packed.Tie as tie
+
+abbrev Inv-loop : tie.InvT-loop
+Inv-loop o places field₀ j₀ j-end field j = (j-end ≡ length places) × (j ≤ length places) × (field < 2 ^ j) × (number (bitsAt (bitAt o) places) ≡ numberFrom field (bitsAt (bitAt o) (drop j places)))
+
+abbrev μ-loop : tie.MeasureT-loop
+μ-loop o places field₀ j₀ j-end field j = length places - j
+
+loop-holds : tie.Need-loop-holds Inv-loop μ-loop
+loop-holds c = (refl, omega arith, lit< tt, refl)
+
+bit-at-requires : tie.Need-bit-at-requires Inv-loop μ-loop
+bit-at-requires c κs = (c .before .before .before .pre .0, omega arith)
+
+with-bit-requires : tie.Need-with-bit-requires Inv-loop μ-loop
+with-bit-requires c κs = omega (arith, pow-mono {i = c .before .before .loop .j} {j = 8} (omega arith))
+
+add-j : tie.Need-add-j Inv-loop μ-loop
+add-j c = search needs
+
+loop-less : tie.Need-loop-less Inv-loop μ-loop
+loop-less c = search needs
+
+loop-again : tie.Need-loop-again Inv-loop μ-loop
+loop-again c =
+    let a = c .before .before .before .before .before .args in
+    let i = c .before .before .before .loop in (
+      refl,
+      omega arith,
+      field-grows (i .field) (i .j) (c .before .bit-at .result) (c .with-bit .result) (i .inv .2) (c .with-bit .ensures),
+      number-goes (bitAt (a .o)) (a .places .now) (i .j) (i .field) (c .before .bit-at .result) (c .with-bit .result) (omega arith) (i .inv .3) (c .before .bit-at .ensures) (c .with-bit .ensures),
+    )
+
+returns : tie.Need-returns Inv-loop μ-loop
+returns c =
+    let a = c .before .before .before .args in
+    let i = c .before .loop in
+    sym (i .inv .3 ∙ number-end (a .places .now) (i .j) (bitAt (a .o)) (i .field) (omega arith))
+
+pub packed-spec : {M : Type 1} → statement M
+packed-spec =
+    tie.close
+    (tie.spec
+    Inv-loop
+    μ-loop
+    loop-holds
+    bit-at-requires
+    with-bit-requires
+    add-j
+    loop-less
+    loop-again
+    returns)

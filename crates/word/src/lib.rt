@@ -1,0 +1,81 @@
+// A frame's bits at lent places: one loop each for fixed bits, for a packed field and for a CRC, whatever the list and its length.
+ghost use mathlib.Core.Path.{_≡_};
+ghost use mathlib.Core.Bool.{Bool, Bool·beq};
+ghost use mathlib.Core.List.{List};
+ghost use Prim.Native.Nat.{_+_, _*_, _≤_, _<_};
+ghost use lib.ListN.{length, getD};
+ghost use Rattle.bits.specs.Bit.{bitAt, toN, number};
+ghost use Rattle.channel.specs.Coding.{bitsAt, all, odd};
+ghost use Rattle.channel.specs.Crc.{right};
+ghost use Rattle.word.specs.Below.{Below};
+
+// The bit at entry j of the places.
+fn bit_at(o: [u8; 20], places: &[u8], j: usize) -> bool
+    requires { ⌜ Below 160 (now places) × (j < length (now places)) ⌝ }
+    ensures { λ r. ⌜ r ≡ bitAt o (getD (now (places .entry)) j 0) ⌝ }
+{
+    let p = places[j] as usize;
+    bits::bit(&o, p)
+}
+
+// Whether the bits at all the places have the value; the first that differs ends it.
+pub fn all_are(o: [u8; 20], places: &[u8], value: bool) -> bool
+    requires { ⌜ Below 160 (now places) ⌝ }
+    ensures { λ r. ⌜ r ≡ all (λ p. Bool·beq (bitAt o p) value) (now (places .entry)) ⌝ }
+{
+    for j in 0..places.len() {
+        if bit_at(o, places, j) != value {
+            return false;
+        }
+    }
+    true
+}
+
+// The bits at the places as a number, the first on top.
+pub fn packed(o: [u8; 20], places: &[u8]) -> u32
+    requires { ⌜ Below 160 (now places) × (length (now places) ≤ 8) ⌝ }
+    ensures { λ r. ⌜ r ≡ number (bitsAt (bitAt o) (now (places .entry))) ⌝ }
+{
+    let mut field: u32 = 0;
+    for j in 0..places.len() {
+        field = with_bit(field, bit_at(o, places, j));
+    }
+    field
+}
+
+// A packed field with one bit more.
+fn with_bit(field: u32, b: bool) -> u32
+    requires { ⌜ field ≤ 65535 ⌝ }
+    ensures { λ r. ⌜ r ≡ 2 * field + toN b ⌝ }
+{
+    if b { 2 * field + 1 } else { 2 * field }
+}
+
+// Whether a field packed of bits has an odd number of ones, by the language's own count.
+pub fn odd_ones(field: u32) -> bool
+    ensures { λ r. ⌜ ((bs : List Bool) → field ≡ number bs → r ≡ odd bs) ⌝ }
+{
+    u32::count_ones(field) % 2 == 1
+}
+
+// Whether a CRC is right: the bits at the places, the CRC's own last, divided by X^3 + X + 1 leave X^2 + X + 1. The three bools are the remainder so far.
+pub fn crc_right(o: [u8; 20], places: &[u8]) -> bool
+    requires { ⌜ Below 160 (now places) ⌝ }
+    ensures { λ r. ⌜ r ≡ right (bitAt o) (now (places .entry)) ⌝ }
+{
+    let mut r2 = false;
+    let mut r1 = false;
+    let mut r0 = false;
+    for j in 0..places.len() {
+        let b = bit_at(o, places, j);
+        let carry = r2;
+        r2 = r1;
+        r1 = r0 != carry;
+        r0 = b != carry;
+    }
+    if r2 {
+        if r1 { r0 } else { false }
+    } else {
+        false
+    }
+}
