@@ -5,3 +5,4 @@ pub mod PolyLaws
 pub mod ExamplesHold
 pub mod ChannelLaws
 pub mod DLaws
+pub mod CutLaws

@@ -7,7 +7,7 @@ use Rattle.reading.specs.Reading.{joined}
 use Rattle.bits.specs.Bit.{count}
 use Rattle.channel.specs.declared.Kind.{Kind}
 use Rattle.channel.specs.declared.Kind.the-variants.{Speech, Data, Om, Configuration, NoSpeech, Lower, Amr670, Amr740}
-use Rattle.channel.specs.Kinds.{kinds, dCount}
+use Rattle.channel.specs.Kinds.{kinds}
 use Rattle.channel.specs.Places.{dPlaces}
 use Rattle.channel.specs.Coding.{Word, bitsAt}
 use Rattle.channel.specs.Control.{fromTop}

@@ -110,3 +110,7 @@ ones-from (b ∷ bs) a = omega (arith, ones-from bs (2 * a + toN b), bit-last a 
 pub ones-packed : (bs : List Bool) → Count.ones (number bs) ≡ ones bs
 unfolding Count.ones Count.onesIn
 ones-packed bs = ones-from bs 0 ∙ zero-add (ones bs)
+
+-- so its parity is theirs
+pub odd-packed : (field : ℕ) (r : Bool) (bs : List Bool) → r ≡ eqb (Count.ones field % 2) 1 → field ≡ number bs → r ≡ odd bs
+odd-packed field r bs h e = h ∙ rw (e, ones-packed bs)

@@ -1,11 +1,12 @@
 // A frame's bits at lent places: one loop each for fixed bits, for a packed field and for a CRC, whatever the list and its length.
 ghost use mathlib.Core.Path.{_≡_};
-ghost use mathlib.Core.Bool.{Bool, Bool·beq};
-ghost use mathlib.Core.List.{List};
-ghost use Prim.Native.Nat.{_+_, _*_, _≤_, _<_};
+ghost use mathlib.Core.Bool.{Bool·beq};
+ghost use Prim.Native.Nat.{_+_, _*_, _%_, _≤_, _<_};
+ghost use lib.Count.{ones};
+ghost use lib.Dec.{eqb};
 ghost use lib.ListN.{length, getD};
 ghost use Rattle.bits.specs.Bit.{bitAt, toN, number};
-ghost use Rattle.channel.specs.Coding.{bitsAt, all, odd};
+ghost use Rattle.channel.specs.Coding.{bitsAt, all};
 ghost use Rattle.channel.specs.Crc.{right};
 ghost use Rattle.word.specs.Below.{Below};
 
@@ -51,9 +52,9 @@ fn with_bit(field: u32, b: bool) -> u32
     if b { 2 * field + 1 } else { 2 * field }
 }
 
-// Whether a field packed of bits has an odd number of ones, by the language's own count.
+// Whether a packed field has an odd number of ones, by the language's own count.
 pub fn odd_ones(field: u32) -> bool
-    ensures { λ r. ⌜ ((bs : List Bool) → field ≡ number bs → r ≡ odd bs) ⌝ }
+    ensures { λ r. ⌜ r ≡ eqb (ones field % 2) 1 ⌝ }
 {
     u32::count_ones(field) % 2 == 1
 }

@@ -2,6 +2,7 @@
 -- Assumes nothing.
 use borrow.Author.Tests.{not-true, not-false}
 use Rattle.channel.proofs.BoolLaws.{and-both}
+use Rattle.word.proofs.WordLaws.{odd-packed}
 use Rattle.frame.proofs.CodingLaws.{and-not, and-left}
 use mathlib.Core.Path.{_≡_, refl, sym, _∙_, ap}
 use native.Mathlib.Omega.{arith}
@@ -27,7 +28,7 @@ odd-ones-requires : tie.Need-odd-ones-requires
 odd-ones-requires c κs = search needs
 
 returns : tie.Need-returns
-returns c = hr-none (c .before .before .before .before .args .d) (bitAt (c .before .before .before .before .args .o)) (hr-odd-not (c .before .before .before .before .args .d) (bitAt (c .before .before .before .before .args .o)) (sym (c .before .odd-ones .ensures (bitsAt (bitAt (c .before .before .before .before .args .o)) (cPlaces Hr)) (c .before .before .packed .ensures)) ∙ not-true (c .before .odd-ones .result) (c .if1 .taken)))
+returns c = hr-none (c .before .before .before .before .args .d) (bitAt (c .before .before .before .before .args .o)) (hr-odd-not (c .before .before .before .before .args .d) (bitAt (c .before .before .before .before .args .o)) (sym (odd-packed (c .before .before .packed .result) (c .before .odd-ones .result) (bitsAt (bitAt (c .before .before .before .before .args .o)) (cPlaces Hr)) (c .before .odd-ones .ensures) (c .before .before .packed .ensures)) ∙ not-true (c .before .odd-ones .result) (c .if1 .taken)))
 
 c4-coded-requires : tie.Need-c4-coded-requires
 c4-coded-requires c κs = search needs
@@ -43,7 +44,7 @@ returns-3 c =
     let d = c .before .before .before .before .before .before .before .before .before .args .d in
     let g = bitAt (c .before .before .before .before .before .before .before .before .before .args .o) in
     let x = c .before .before .before .before .before .before .before .packed .result in
-    let is-odd = sym (c .before .before .before .before .before .before .odd-ones .ensures (bitsAt g (cPlaces Hr)) (c .before .before .before .before .before .before .before .packed .ensures)) ∙ not-false (c .before .before .before .before .before .before .odd-ones .result) (c .before .before .before .before .before .if1 .left) in
+    let is-odd = sym (odd-packed (c .before .before .before .before .before .before .before .packed .result) (c .before .before .before .before .before .before .odd-ones .result) (bitsAt g (cPlaces Hr)) (c .before .before .before .before .before .before .odd-ones .ensures) (c .before .before .before .before .before .before .before .packed .ensures)) ∙ not-false (c .before .before .before .before .before .before .odd-ones .result) (c .before .before .before .before .before .if1 .left) in
     let c4-holds = sym (c .before .before .before .before .c4-coded .ensures) ∙ not-false (c .before .before .before .before .c4-coded .result) (c .before .before .before .if2 .left) in
     (refl, and-both _ _ (hr-this d g x (c .before .before .before .before .before .before .before .packed .ensures) 0 (c .before .before .if3 .taken) c4-holds is-odd) (sym (c .before .speech-xc .ensures) ∙ c .if4 .taken))
 
@@ -52,7 +53,7 @@ returns-4 c =
     let d = c .before .before .before .before .before .before .before .before .before .args .d in
     let g = bitAt (c .before .before .before .before .before .before .before .before .before .args .o) in
     let x = c .before .before .before .before .before .before .before .packed .result in
-    let is-odd = sym (c .before .before .before .before .before .before .odd-ones .ensures (bitsAt g (cPlaces Hr)) (c .before .before .before .before .before .before .before .packed .ensures)) ∙ not-false (c .before .before .before .before .before .before .odd-ones .result) (c .before .before .before .before .before .if1 .left) in
+    let is-odd = sym (odd-packed (c .before .before .before .before .before .before .before .packed .result) (c .before .before .before .before .before .before .odd-ones .result) (bitsAt g (cPlaces Hr)) (c .before .before .before .before .before .before .odd-ones .ensures) (c .before .before .before .before .before .before .before .packed .ensures)) ∙ not-false (c .before .before .before .before .before .before .odd-ones .result) (c .before .before .before .before .before .if1 .left) in
     let c4-holds = sym (c .before .before .before .before .c4-coded .ensures) ∙ not-false (c .before .before .before .before .c4-coded .result) (c .before .before .before .if2 .left) in
     hr-nothing d g (and-not (hrCoded d g 0) (xcCoded g (speechXc d)) (sym (c .before .speech-xc .ensures) ∙ c .if4 .left)) (hr-other d g x (c .before .before .before .before .before .before .before .packed .ensures) 1 (omega arith)) (and-left _ _ (hr-other d g x (c .before .before .before .before .before .before .before .packed .ensures) 2 (omega arith))) (hr-other d g x (c .before .before .before .before .before .before .before .packed .ensures) 7 (omega arith))
 
@@ -61,7 +62,7 @@ returns-5 c =
     let d = c .before .before .before .before .before .before .before .before .args .d in
     let g = bitAt (c .before .before .before .before .before .before .before .before .args .o) in
     let x = c .before .before .before .before .before .before .packed .result in
-    let is-odd = sym (c .before .before .before .before .before .odd-ones .ensures (bitsAt g (cPlaces Hr)) (c .before .before .before .before .before .before .packed .ensures)) ∙ not-false (c .before .before .before .before .before .odd-ones .result) (c .before .before .before .before .if1 .left) in
+    let is-odd = sym (odd-packed (c .before .before .before .before .before .before .packed .result) (c .before .before .before .before .before .odd-ones .result) (bitsAt g (cPlaces Hr)) (c .before .before .before .before .before .odd-ones .ensures) (c .before .before .before .before .before .before .packed .ensures)) ∙ not-false (c .before .before .before .before .before .odd-ones .result) (c .before .before .before .before .if1 .left) in
     let c4-holds = sym (c .before .before .before .c4-coded .ensures) ∙ not-false (c .before .before .before .c4-coded .result) (c .before .before .if2 .left) in
     (refl, hr-this d g x (c .before .before .before .before .before .before .packed .ensures) 1 (c .if5 .taken) c4-holds is-odd)
 
@@ -73,7 +74,7 @@ returns-6 c =
     let d = c .before .before .before .before .before .before .before .before .before .before .before .args .d in
     let g = bitAt (c .before .before .before .before .before .before .before .before .before .before .before .args .o) in
     let x = c .before .before .before .before .before .before .before .before .before .packed .result in
-    let is-odd = sym (c .before .before .before .before .before .before .before .before .odd-ones .ensures (bitsAt g (cPlaces Hr)) (c .before .before .before .before .before .before .before .before .before .packed .ensures)) ∙ not-false (c .before .before .before .before .before .before .before .before .odd-ones .result) (c .before .before .before .before .before .before .before .if1 .left) in
+    let is-odd = sym (odd-packed (c .before .before .before .before .before .before .before .before .before .packed .result) (c .before .before .before .before .before .before .before .before .odd-ones .result) (bitsAt g (cPlaces Hr)) (c .before .before .before .before .before .before .before .before .odd-ones .ensures) (c .before .before .before .before .before .before .before .before .before .packed .ensures)) ∙ not-false (c .before .before .before .before .before .before .before .before .odd-ones .result) (c .before .before .before .before .before .before .before .if1 .left) in
     let c4-holds = sym (c .before .before .before .before .before .before .c4-coded .ensures) ∙ not-false (c .before .before .before .before .before .before .c4-coded .result) (c .before .before .before .before .before .if2 .left) in
     (refl, and-both _ _ (hr-this d g x (c .before .before .before .before .before .before .before .before .before .packed .ensures) 2 (c .before .before .if6 .taken) c4-holds is-odd) (sym (c .before .om-xc .ensures) ∙ c .if7 .taken))
 
@@ -82,7 +83,7 @@ returns-7 c =
     let d = c .before .before .before .before .before .before .before .before .before .before .before .args .d in
     let g = bitAt (c .before .before .before .before .before .before .before .before .before .before .before .args .o) in
     let x = c .before .before .before .before .before .before .before .before .before .packed .result in
-    let is-odd = sym (c .before .before .before .before .before .before .before .before .odd-ones .ensures (bitsAt g (cPlaces Hr)) (c .before .before .before .before .before .before .before .before .before .packed .ensures)) ∙ not-false (c .before .before .before .before .before .before .before .before .odd-ones .result) (c .before .before .before .before .before .before .before .if1 .left) in
+    let is-odd = sym (odd-packed (c .before .before .before .before .before .before .before .before .before .packed .result) (c .before .before .before .before .before .before .before .before .odd-ones .result) (bitsAt g (cPlaces Hr)) (c .before .before .before .before .before .before .before .before .odd-ones .ensures) (c .before .before .before .before .before .before .before .before .before .packed .ensures)) ∙ not-false (c .before .before .before .before .before .before .before .before .odd-ones .result) (c .before .before .before .before .before .before .before .if1 .left) in
     let c4-holds = sym (c .before .before .before .before .before .before .c4-coded .ensures) ∙ not-false (c .before .before .before .before .before .before .c4-coded .result) (c .before .before .before .before .before .if2 .left) in
     hr-nothing d g (and-left _ _ (hr-other d g x (c .before .before .before .before .before .before .before .before .before .packed .ensures) 0 (omega arith))) (hr-other d g x (c .before .before .before .before .before .before .before .before .before .packed .ensures) 1 (omega arith)) (and-not (hrCoded d g 2) (xcCoded g (31 ∷ [])) (sym (c .before .om-xc .ensures) ∙ c .if7 .left)) (hr-other d g x (c .before .before .before .before .before .before .before .before .before .packed .ensures) 7 (omega arith))
 
@@ -91,7 +92,7 @@ returns-8 c =
     let d = c .before .before .before .before .before .before .before .before .before .before .args .d in
     let g = bitAt (c .before .before .before .before .before .before .before .before .before .before .args .o) in
     let x = c .before .before .before .before .before .before .before .before .packed .result in
-    let is-odd = sym (c .before .before .before .before .before .before .before .odd-ones .ensures (bitsAt g (cPlaces Hr)) (c .before .before .before .before .before .before .before .before .packed .ensures)) ∙ not-false (c .before .before .before .before .before .before .before .odd-ones .result) (c .before .before .before .before .before .before .if1 .left) in
+    let is-odd = sym (odd-packed (c .before .before .before .before .before .before .before .before .packed .result) (c .before .before .before .before .before .before .before .odd-ones .result) (bitsAt g (cPlaces Hr)) (c .before .before .before .before .before .before .before .odd-ones .ensures) (c .before .before .before .before .before .before .before .before .packed .ensures)) ∙ not-false (c .before .before .before .before .before .before .before .odd-ones .result) (c .before .before .before .before .before .before .if1 .left) in
     let c4-holds = sym (c .before .before .before .before .before .c4-coded .ensures) ∙ not-false (c .before .before .before .before .before .c4-coded .result) (c .before .before .before .before .if2 .left) in
     (refl, hr-this d g x (c .before .before .before .before .before .before .before .before .packed .ensures) 7 (c .if8 .taken) c4-holds is-odd)
 
@@ -100,7 +101,7 @@ returns-9 c =
     let d = c .before .before .before .before .before .before .before .before .before .before .args .d in
     let g = bitAt (c .before .before .before .before .before .before .before .before .before .before .args .o) in
     let x = c .before .before .before .before .before .before .before .before .packed .result in
-    let is-odd = sym (c .before .before .before .before .before .before .before .odd-ones .ensures (bitsAt g (cPlaces Hr)) (c .before .before .before .before .before .before .before .before .packed .ensures)) ∙ not-false (c .before .before .before .before .before .before .before .odd-ones .result) (c .before .before .before .before .before .before .if1 .left) in
+    let is-odd = sym (odd-packed (c .before .before .before .before .before .before .before .before .packed .result) (c .before .before .before .before .before .before .before .odd-ones .result) (bitsAt g (cPlaces Hr)) (c .before .before .before .before .before .before .before .odd-ones .ensures) (c .before .before .before .before .before .before .before .before .packed .ensures)) ∙ not-false (c .before .before .before .before .before .before .before .odd-ones .result) (c .before .before .before .before .before .before .if1 .left) in
     let c4-holds = sym (c .before .before .before .before .before .c4-coded .ensures) ∙ not-false (c .before .before .before .before .before .c4-coded .result) (c .before .before .before .before .if2 .left) in
     hr-nothing d g (and-left _ _ (hr-other d g x (c .before .before .before .before .before .before .before .before .packed .ensures) 0 (c .before .before .before .if3 .left))) (hr-other d g x (c .before .before .before .before .before .before .before .before .packed .ensures) 1 (c .before .before .if5 .left)) (and-left _ _ (hr-other d g x (c .before .before .before .before .before .before .before .before .packed .ensures) 2 (c .before .if6 .left))) (hr-other d g x (c .before .before .before .before .before .before .before .before .packed .ensures) 7 (c .if8 .left))
 

@@ -10,6 +10,7 @@ use Rattle.channel.specs.Places.{xcPlaces, cPlaces}
 use Rattle.channel.specs.Coding.{speechXc}
 use Rattle.channel.specs.declared.Pattern.the-variants.{Hr, Low}
 use mathlib.Core.List.{_∷_, []}
+use Rattle.word.proofs.WordLaws.{odd-packed}
 use Rattle.frame.proofs.CodingLaws.{listed-below, one-elem, xc-odd, xc-even}
 use borrow.Author.Needs.{needs}
 use Rattle.frame.proofs.coding.om_xc.Statement.{statement}
@@ -25,10 +26,10 @@ odd-ones-requires : tie.Need-odd-ones-requires
 odd-ones-requires c κs = search needs
 
 returns : tie.Need-returns
-returns c = one-elem (c .before .before .packed .result / 2) 31 ∙ xc-odd (bitAt (c .before .before .before .before .args .o)) (c .before .before .packed .result) (c .before .before .packed .ensures) (31 ∷ []) (sym (c .before .odd-ones .ensures (bitsAt (bitAt (c .before .before .before .before .args .o)) xcPlaces) (c .before .before .packed .ensures)) ∙ c .if1 .taken)
+returns c = one-elem (c .before .before .packed .result / 2) 31 ∙ xc-odd (bitAt (c .before .before .before .before .args .o)) (c .before .before .packed .result) (c .before .before .packed .ensures) (31 ∷ []) (sym (odd-packed (c .before .before .packed .result) (c .before .odd-ones .result) (bitsAt (bitAt (c .before .before .before .before .args .o)) xcPlaces) (c .before .odd-ones .ensures) (c .before .before .packed .ensures)) ∙ c .if1 .taken)
 
 returns-2 : tie.Need-returns-2
-returns-2 c = xc-even (bitAt (c .before .before .before .before .args .o)) (c .before .before .packed .result) (c .before .before .packed .ensures) (31 ∷ []) (sym (c .before .odd-ones .ensures (bitsAt (bitAt (c .before .before .before .before .args .o)) xcPlaces) (c .before .before .packed .ensures)) ∙ c .if1 .left)
+returns-2 c = xc-even (bitAt (c .before .before .before .before .args .o)) (c .before .before .packed .result) (c .before .before .packed .ensures) (31 ∷ []) (sym (odd-packed (c .before .before .packed .result) (c .before .odd-ones .result) (bitsAt (bitAt (c .before .before .before .before .args .o)) xcPlaces) (c .before .odd-ones .ensures) (c .before .before .packed .ensures)) ∙ c .if1 .left)
 
 pub om-xc-spec : {M : Type 1} → statement M
 om-xc-spec =

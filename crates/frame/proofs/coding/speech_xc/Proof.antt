@@ -8,6 +8,7 @@ use Rattle.channel.specs.Coding.{bitsAt}
 use Rattle.channel.specs.Places.{xcPlaces, cPlaces}
 use Rattle.channel.specs.Coding.{speechXc}
 use Rattle.channel.specs.declared.Pattern.the-variants.{Hr, Low}
+use Rattle.word.proofs.WordLaws.{odd-packed}
 use Rattle.frame.proofs.CodingLaws.{listed-below, xc-lt, xc-odd, xc-even}
 use borrow.Author.Needs.{needs}
 use Rattle.frame.proofs.coding.speech_xc.Statement.{statement}
@@ -26,10 +27,10 @@ speech-number-requires : tie.Need-speech-number-requires
 speech-number-requires c κs = xc-lt (bitAt (c .before .before .before .before .args .o)) (c .before .before .packed .result) (c .before .before .packed .ensures)
 
 returns : tie.Need-returns
-returns c = c .speech-number .ensures ∙ xc-odd (bitAt (c .before .before .before .before .before .args .o)) (c .before .before .before .packed .result) (c .before .before .before .packed .ensures) (speechXc (c .before .before .before .before .before .args .d)) (sym (c .before .before .odd-ones .ensures (bitsAt (bitAt (c .before .before .before .before .before .args .o)) xcPlaces) (c .before .before .before .packed .ensures)) ∙ c .before .if1 .taken)
+returns c = c .speech-number .ensures ∙ xc-odd (bitAt (c .before .before .before .before .before .args .o)) (c .before .before .before .packed .result) (c .before .before .before .packed .ensures) (speechXc (c .before .before .before .before .before .args .d)) (sym (odd-packed (c .before .before .before .packed .result) (c .before .before .odd-ones .result) (bitsAt (bitAt (c .before .before .before .before .before .args .o)) xcPlaces) (c .before .before .odd-ones .ensures) (c .before .before .before .packed .ensures)) ∙ c .before .if1 .taken)
 
 returns-2 : tie.Need-returns-2
-returns-2 c = xc-even (bitAt (c .before .before .before .before .args .o)) (c .before .before .packed .result) (c .before .before .packed .ensures) (speechXc (c .before .before .before .before .args .d)) (sym (c .before .odd-ones .ensures (bitsAt (bitAt (c .before .before .before .before .args .o)) xcPlaces) (c .before .before .packed .ensures)) ∙ c .if1 .left)
+returns-2 c = xc-even (bitAt (c .before .before .before .before .args .o)) (c .before .before .packed .result) (c .before .before .packed .ensures) (speechXc (c .before .before .before .before .args .d)) (sym (odd-packed (c .before .before .packed .result) (c .before .odd-ones .result) (bitsAt (bitAt (c .before .before .before .before .args .o)) xcPlaces) (c .before .odd-ones .ensures) (c .before .before .packed .ensures)) ∙ c .if1 .left)
 
 pub speech-xc-spec : {M : Type 1} → statement M
 speech-xc-spec =

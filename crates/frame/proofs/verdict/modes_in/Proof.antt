@@ -22,7 +22,7 @@ context-mode-requires c κs = search needs
 
 -- src/verdict.rt:66:9
 returns : tie.Need-returns
-returns c = 
+returns c =
     record {
       named = c .before .before .own-mode .ensures;
       used = c .context-mode .ensures ∙ mode-context (c .before .before .before .args .x) (bitAt (c .before .before .before .args .o)) (c .before .before .own-mode .result) (c .before .before .own-mode .ensures) (c .before .if1 .taken);
@@ -32,7 +32,7 @@ returns c =
 
 -- src/verdict.rt:60:1
 returns-2 : tie.Need-returns-2
-returns-2 c = 
+returns-2 c =
     record {
       named = c .before .own-mode .ensures;
       used = mode-own (c .before .before .args .x) (bitAt (c .before .before .args .o)) (c .before .own-mode .result) (c .before .own-mode .ensures) (c .if1 .left);

@@ -1,0 +1,108 @@
+-- What is said of a frame lies in its body: bits behind it change nothing.
+-- Assumes nothing.
+use mathlib.Core.Path.{_≡_, refl, sym, _∙_, ap, ap₂}
+use mathlib.Core.Bool.{Bool, true, false, _&&_, not}
+use mathlib.Core.List.{List, [], _∷_, _++_}
+use Prim.Native.Nat.{ℕ, zero, suc, _+_, _*_, _<_}
+use native.Mathlib.Nat.{zero-add}
+use lib.Dec.{eqb, ltb, leb}
+use Rattle.bits.specs.Bit.{toN}
+use Rattle.channel.specs.declared.Kind.{Kind}
+use Rattle.channel.specs.declared.Kind.the-variants.{Speech, Data, Om, Configuration, NoSpeech, Lower, Amr670, Amr740}
+use Rattle.channel.specs.Kinds.{bodyOf}
+use Rattle.channel.specs.Places.{dPlaces}
+use Rattle.channel.specs.Coding.{Word, wordAt, bitsAt, all}
+use Rattle.channel.specs.Crc.{right, leaves111}
+use Rattle.channel.specs.Checks.{checks, checks475, checks515, checks590, checksLower}
+use Rattle.channel.specs.Verdict.{modeOf, unchecked, wrongs, verdictOf, afterOf, ownMode}
+use Rattle.channel.specs.Control.{control, extended}
+use Rattle.channel.proofs.BoolLaws.{and-l, and-r}
+
+-- the bits at places below the cut are the word's own
+bits-cut : (g : Word) (b : ℕ) (ps : List ℕ) → all (λ p. ltb p b) ps ≡ true → bitsAt (wordAt g 0 b) ps ≡ bitsAt g ps
+bits-cut g b [] h = refl
+bits-cut g b (p ∷ ps) h =
+    let e : ltb p b && g (0 + p) ≡ g p = rw (and-l (ltb p b) (all (λ p. ltb p b) ps) h, zero-add p) in
+    ap₂ (λ (x : Bool) (xs : List Bool). x ∷ xs) e (bits-cut g b ps (and-r (ltb p b) (all (λ p. ltb p b) ps) h))
+
+right-cut : (g : Word) (b : ℕ) (ps : List ℕ) → all (λ p. ltb p b) ps ≡ true → right (wordAt g 0 b) ps ≡ right g ps
+unfolding right
+right-cut g b ps h = ap leaves111 (bits-cut g b ps h)
+
+-- every place of some checks lies below b
+abbrev inside : ℕ → List (List ℕ) → Bool
+inside b [] = true
+inside b (ps ∷ cs) = all (λ p. ltb p b) ps && inside b cs
+
+wrongs-cut : (g : Word) (b : ℕ) (cs : List (List ℕ)) → inside b cs ≡ true → wrongs (wordAt g 0 b) cs ≡ wrongs g cs
+wrongs-cut g b [] h = refl
+wrongs-cut g b (ps ∷ cs) h =
+    ap₂ (λ (t : Bool) (n : ℕ). toN (not t) + 2 * n) (right-cut g b ps (and-l (all (λ p. ltb p b) ps) (inside b cs) h))
+    (wrongs-cut g b cs (and-r (all (λ p. ltb p b) ps) (inside b cs) h))
+
+-- the checks of a kind 6, in any mode, lie in its body
+lower-inside : (mode : ℕ) → inside 159 (checksLower mode) ≡ true
+unfolding dPlaces
+lower-inside zero = refl
+lower-inside (suc zero) = refl
+lower-inside (suc (suc zero)) = refl
+lower-inside (suc (suc (suc zero))) = refl
+lower-inside (suc (suc (suc (suc m)))) = refl
+
+-- the context that is left
+pub after-cut : (x : ℕ) (g : Word) (k : Kind) → afterOf x (wordAt g 0 (bodyOf k)) k ≡ afterOf x g k
+after-cut x g Speech = refl
+after-cut x g Data = refl
+after-cut x g Om = refl
+after-cut x g Configuration = refl
+after-cut x g NoSpeech = refl
+after-cut x g Lower = refl
+after-cut x g Amr670 = refl
+after-cut x g Amr740 = refl
+
+-- the verdict
+pub verdict-cut : (x : ℕ) (g : Word) (k : Kind) → verdictOf x (wordAt g 0 (bodyOf k)) k ≡ verdictOf x g k
+unfolding verdictOf checks dPlaces
+verdict-cut x g Speech = ap (λ (n : ℕ). 128 * 0 + 16 * 0 + n) (wrongs-cut g 158 (checks 0 Speech) refl)
+verdict-cut x g Data = refl
+verdict-cut x g Om = refl
+verdict-cut x g Configuration = refl
+verdict-cut x g NoSpeech = refl
+verdict-cut x g Lower = ap (λ (n : ℕ). 128 * toN (eqb (modeOf x g Lower) 0) + 16 * modeOf x g Lower + n) (wrongs-cut g 159 (checksLower (modeOf x g Lower)) (lower-inside (modeOf x g Lower)))
+verdict-cut x g Amr670 = ap (λ (n : ℕ). 128 * 0 + 16 * 0 + n) (wrongs-cut g 160 (checks 0 Amr670) refl)
+verdict-cut x g Amr740 = ap (λ (n : ℕ). 128 * 0 + 16 * 0 + n) (wrongs-cut g 160 (checks 0 Amr740) refl)
+
+-- control and extended
+pub control-cut : (g : Word) (k : Kind) → control (wordAt g 0 (bodyOf k)) k ≡ control g k
+unfolding control
+control-cut g Speech = refl
+control-cut g Data = refl
+control-cut g Om = refl
+control-cut g Configuration = refl
+control-cut g NoSpeech = refl
+control-cut g Lower = refl
+control-cut g Amr670 = refl
+control-cut g Amr740 = refl
+
+pub extended-cut : (g : Word) (k : Kind) → extended (wordAt g 0 (bodyOf k)) k ≡ extended g k
+unfolding extended
+extended-cut g Speech = refl
+extended-cut g Data = refl
+extended-cut g Om = refl
+extended-cut g Configuration = refl
+extended-cut g NoSpeech = refl
+extended-cut g Lower = refl
+extended-cut g Amr670 = refl
+extended-cut g Amr740 = refl
+
+-- the bits at the D places
+pub d-cut : (g : Word) (k : Kind) → bitsAt (wordAt g 0 (bodyOf k)) (dPlaces k) ≡ bitsAt g (dPlaces k)
+unfolding dPlaces
+d-cut g Speech = bits-cut g 158 (dPlaces Speech) refl
+d-cut g Data = bits-cut g 159 (dPlaces Data) refl
+d-cut g Om = bits-cut g 159 (dPlaces Om) refl
+d-cut g Configuration = bits-cut g 158 (dPlaces Configuration) refl
+d-cut g NoSpeech = bits-cut g 158 (dPlaces NoSpeech) refl
+d-cut g Lower = bits-cut g 159 (dPlaces Lower) refl
+d-cut g Amr670 = bits-cut g 160 (dPlaces Amr670) refl
+d-cut g Amr740 = bits-cut g 160 (dPlaces Amr740) refl

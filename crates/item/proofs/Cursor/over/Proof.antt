@@ -1,0 +1,58 @@
+-- `item::Cursor::over` meets its contract: by the kind of item.
+-- Assumes nothing.
+use mathlib.Core.Path.{_≡_, refl, sym, _∙_, ap}
+use Prim.Native.Nat.{_+_}
+use native.Mathlib.Omega.{arith}
+use Rattle.item.specs.declared.Cursor.{Cursor}
+use Rattle.item.proofs.ItemLaws.{body-le, over-frame, over-gap}
+use borrow.Author.Needs.{needs}
+use Rattle.item.proofs.Cursor.over.Statement.{statement}
+use Rattle.item.proofs.Cursor.over.Tie as tie
+
+enum-known-found : tie.Need-enum-known-found
+enum-known-found c = search needs
+
+body-requires : tie.Need-body-requires
+body-requires c κs = search needs
+
+add-self : tie.Need-add-self
+add-self c = omega (arith, c .body .ensures, body-le (c .before .before .found .given .0 .0))
+
+add-self-2 : tie.Need-add-self-2
+add-self-2 c = omega (arith, c .body .ensures, body-le (c .before .before .found .given .0 .0))
+
+after-requires : tie.Need-after-requires
+after-requires c κs = search needs
+
+enum-told : tie.Need-enum-told
+enum-told c = search needs
+
+add-self-3 : tie.Need-add-self-3
+add-self-3 c = search needs
+
+returns : tie.Need-returns
+returns c =
+    let i = c .before .before .before .before .before .before .args .i in
+    let k = c .before .before .before .found .given .0 .0 in
+    let r : Cursor = record { position = i .start + c .before .body .result + i .length; context = c .after .result } in
+    over-frame (c .before .before .before .before .before .before .args .self) r i k (c .before .before .before .found .given .1) (ap (λ b. i .start + b + i .length) (c .before .body .ensures)) (c .after .ensures)
+
+returns-2 : tie.Need-returns-2
+returns-2 c =
+    let i = c .before .before .before .args .i in
+    let r : Cursor = record { position = i .start + i .length; context = 0 } in
+    over-gap (c .before .before .before .args .self) r i (c .enum-told .given .1) refl refl
+
+pub over-spec : {M : Type 1} → statement M
+over-spec =
+    tie.close
+    (tie.spec
+    enum-known-found
+    body-requires
+    add-self
+    add-self-2
+    after-requires
+    enum-told
+    add-self-3
+    returns
+    returns-2)

@@ -1,0 +1,41 @@
+-- Records: the bytes of an item (document 01, "Records and calls").
+-- Assumes nothing.
+use mathlib.Core.List.{List, [], _∷_, _++_}
+use Prim.Native.Nat.{ℕ, zero, suc, _+_, _/_, _%_, _^_}
+use lib.ListN.{take}
+use Rattle.reading.specs.Reading.{Item, gap, frame}
+use Rattle.channel.specs.declared.Kind.{Kind}
+use Rattle.channel.specs.Kinds.{kindNo, dCount}
+use Rattle.channel.specs.Control.{control, extended}
+use Rattle.channel.specs.Frames.{Frame}
+use Rattle.dbits.specs.DBits.{dBytes}
+
+-- a number in k bytes, the high byte first
+abbrev pub wide : ℕ → ℕ → List ℕ
+wide zero v = []
+wide (suc k) v = v / 256 ^ k % 256 ∷ wide k v
+
+-- how many bytes the D bits of a kind take
+abbrev pub dLength : Kind → ℕ
+dLength k = (dCount k + 7) / 8
+
+-- how many bytes the record of an item has: 9 for a gap; start, tail, control, extended, verdict and D bits for a frame
+abbrev pub sizeOf : Item Frame → ℕ
+sizeOf (gap start length) = 9
+sizeOf (frame f) = 12 + dLength (f .kind)
+
+-- the record of an item: one byte of kind, then start and length of a gap, or start, tail, control, extended, verdict and the D bits, from the top
+-- bit down, zero padded
+unfoldable pub recordOf : Item Frame → List ℕ
+recordOf (gap start length) = 0 ∷ wide 4 start ++ wide 4 length
+recordOf (frame f) =
+    kindNo (f .kind)
+    ∷ wide 4 (f .start)
+    ++ wide 4 (f .tail)
+    ++ (control (f .body) (f .kind) ∷ extended (f .body) (f .kind) ∷ f .verdict ∷ [])
+    ++ take (dLength (f .kind)) (dBytes (f .body) (f .kind))
+
+-- the records of some items, one behind the other
+abbrev pub records : List (Item Frame) → List ℕ
+records [] = []
+records (x ∷ xs) = recordOf x ++ records xs
