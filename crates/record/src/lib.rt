@@ -1,1 +1,144 @@
 // The record of an item, written into a lent part of a buffer.
+use channel::Kind;
+use frame::Found;
+use frame::places;
+use item::Item;
+ghost use mathlib.Core.Path.{_≡_};
+ghost use mathlib.Core.List.{_++_, _∷_};
+ghost use Prim.Native.Nat.{_+_, _*_, _-_, _%_, _^_, _≤_};
+ghost use lib.ListN.{length, take, drop};
+ghost use Rattle.bits.specs.Bit.{bitAt};
+ghost use Rattle.channel.specs.Coding.{bitsAt};
+ghost use Rattle.channel.specs.Control.{fromTop, control, extended};
+ghost use Rattle.word.specs.Below.{Below};
+ghost use Rattle.dbits.specs.DBits.{dBytes};
+ghost use Rattle.item.specs.Item.{itemOf};
+ghost use Rattle.record.specs.Record.{wide, dLength, sizeOf, recordOf};
+ghost use Rattle.record.specs.Size.{sizeBy};
+
+// C1..C4 and C6..C9 of HR speech.
+const CONTROL_PLACES: [u8; 8] = [9, 10, 11, 12, 154, 155, 156, 157];
+
+// C1..C4 of the HR pattern.
+const HR_CONTROL_PLACES: [u8; 4] = [9, 10, 11, 12];
+
+// XC1..XC5 and CRC2..CRC0 of HR speech.
+const EXTENDED_PLACES: [u8; 8] = [14, 15, 18, 19, 20, 73, 74, 75];
+
+// How many bytes the D bits of a kind take.
+fn d_length(k: Kind) -> usize
+    ensures { λ r. ⌜ r ≡ dLength k ⌝ }
+{
+    (dbits::d_count(k) + 7) / 8
+}
+
+// How many bytes the record of an item has, by what is found.
+pub fn size(found: Found) -> usize
+    ensures { λ r. ⌜ r ≡ sizeBy found ⌝ }
+{
+    match found {
+        Found::Is(k) => 12 + d_length(k),
+        Found::Nothing => 9,
+    }
+}
+
+// A field of n bits at the top of a byte, above zeros.
+fn padded(field: u32, n: usize) -> u8
+    requires { ⌜ n ≤ 8 ⌝ }
+    ensures { λ r. ⌜ r ≡ field * 2 ^ (8 - n) % 256 ⌝ }
+{
+    ((field << (8 - n)) % 256) as u8
+}
+
+// The bits at some places in a byte, from the top, the rest zero.
+fn top_byte(o: [u8; 20], at: &[u8]) -> u8
+    requires { ⌜ Below 160 (now at) × (length (now at) ≤ 8) ⌝ }
+    ensures { λ r. ⌜ r ≡ fromTop (bitsAt (bitAt o) (now (at .entry))) ⌝ }
+{
+    let field = word::packed(o, at);
+    padded(field, at.len())
+}
+
+// The control byte of a frame: its C bits.
+fn control_byte(o: [u8; 20], k: Kind) -> u8
+    ensures { λ r. ⌜ r ≡ control (bitAt o) k ⌝ }
+{
+    match k {
+        Kind::Speech => top_byte(o, &CONTROL_PLACES),
+        Kind::Data => top_byte(o, &HR_CONTROL_PLACES),
+        Kind::Om => top_byte(o, &HR_CONTROL_PLACES),
+        Kind::Configuration => top_byte(o, &HR_CONTROL_PLACES),
+        Kind::NoSpeech => top_byte(o, &places::LOW_C),
+        Kind::Lower => top_byte(o, &places::LOW_C),
+        Kind::Amr670 => top_byte(o, &places::AMR_C),
+        Kind::Amr740 => top_byte(o, &places::AMR_C),
+    }
+}
+
+// The extended byte of a frame: XC and CRC bits of kind 1, the XC bits that every kind 3 has, nothing of the others.
+fn extended_byte(o: [u8; 20], k: Kind) -> u8
+    ensures { λ r. ⌜ r ≡ extended (bitAt o) k ⌝ }
+{
+    match k {
+        Kind::Speech => top_byte(o, &EXTENDED_PLACES),
+        Kind::Data => 0,
+        Kind::Om => 248,
+        Kind::Configuration => 0,
+        Kind::NoSpeech => 0,
+        Kind::Lower => 0,
+        Kind::Amr670 => 0,
+        Kind::Amr740 => 0,
+    }
+}
+
+// A kind number and two numbers of four bytes, the high byte first, at the front of a lent part.
+fn put_front(out: &mut [u8], kind: u8, start: usize, span: usize)
+    requires { ⌜ 9 ≤ length (now out) ⌝ }
+    ensures { λ _. ⌜ now (out .exit) ≡ kind ∷ wide 4 start ++ wide 4 span ++ drop 9 (now (out .entry)) ⌝ }
+{
+    out[0] = kind;
+    out[1] = (start / 16777216 % 256) as u8;
+    out[2] = (start / 65536 % 256) as u8;
+    out[3] = (start / 256 % 256) as u8;
+    out[4] = (start % 256) as u8;
+    out[5] = (span / 16777216 % 256) as u8;
+    out[6] = (span / 65536 % 256) as u8;
+    out[7] = (span / 256 % 256) as u8;
+    out[8] = (span % 256) as u8;
+}
+
+// The D bits of a frame behind the twelve bytes that stand at the front of a lent part.
+fn put_d(out: &mut [u8], o: [u8; 20], k: Kind)
+    requires { ⌜ 12 + dLength k ≤ length (now out) ⌝ }
+    ensures { λ _. ⌜ now (out .exit) ≡ take 12 (now (out .entry)) ++ take (dLength k) (dBytes (bitAt o) k) ++ drop (12 + dLength k) (now (out .entry)) ⌝ }
+{
+    let bytes = dbits::d_bytes(o, k);
+    let n = d_length(k);
+    for j in 0..n {
+        out[12 + j] = bytes[j];
+    }
+}
+
+// The record of an item, at the front of a lent part; the rest of the part is unchanged.
+pub fn put(out: &mut [u8], i: Item)
+    requires { ⌜ sizeOf (itemOf i) ≤ length (now out) ⌝ }
+    ensures { λ _. ⌜ now (out .exit) ≡ recordOf (itemOf i) ++ drop (sizeOf (itemOf i)) (now (out .entry)) ⌝ }
+{
+    let start = i.start;
+    let span = i.length;
+    let found = i.found;
+    let octets = i.octets;
+    let verdict = i.verdict;
+    match found {
+        Found::Is(k) => {
+            put_front(out, kinds::number(k), start, span);
+            out[9] = control_byte(octets, k);
+            out[10] = extended_byte(octets, k);
+            out[11] = verdict;
+            put_d(out, octets, k);
+        }
+        Found::Nothing => {
+            put_front(out, 0, start, span);
+        }
+    }
+}

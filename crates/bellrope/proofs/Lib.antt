@@ -1,0 +1,3 @@
+pub mod PageLaws
+pub mod FillLaws
+pub mod CallLaws

@@ -1,0 +1,15 @@
+-- `bellrope::paging::direction_of` meets its contract.
+-- Assumes nothing.
+use borrow.Author.Tests.{lt-ltb, le-ltb, eq-eqb, ne-eqb}
+use borrow.Author.Needs.{needs}
+use Rattle.bellrope.proofs.paging.direction_of.Statement.{statement}
+use Rattle.bellrope.proofs.paging.direction_of.Tie as tie
+
+returns : tie.Need-returns
+returns c = rw (eq-eqb (c .before .args .direction) 0 (c .if1 .taken))
+
+returns-2 : tie.Need-returns-2
+returns-2 c = rw (ne-eqb (c .before .args .direction) 0 (c .if1 .left))
+
+pub direction-of-spec : {M : Type 1} → statement M
+direction-of-spec = tie.close (tie.spec returns returns-2)

@@ -1,0 +1,114 @@
+-- `bellrope::paging::fill` meets its contract: the invariant is that the items done are a stretch from the cursor, with their records in front.
+-- Assumes nothing.
+use mathlib.Core.Path.{_≡_, refl, sym, _∙_, ap, subst}
+use Prim.Native.Nat.{ℕ, _+_, _-_, _≤_, _<_}
+use native.Mathlib.Omega.{arith}
+use borrow.Rule.Slice.PartMut.{putMid, same-len-mid}
+use lib.ListN.{length}
+use Rattle.reading.specs.Reading.{Cursor}
+use Rattle.reading.proofs.ItemLaws.{within}
+use Rattle.channel.specs.Frames.{captureOf, rules}
+use Rattle.channel.proofs.FrameLaws.{sound}
+use Rattle.item.specs.Item.{itemOf, cursorOf}
+use Rattle.record.specs.Record.{sizeOf}
+use Rattle.record.proofs.RecordLaws.{size-of, size-le}
+use Rattle.bellrope.proofs.FillLaws.{Filling, fill-start, fill-turn, length-tail, item-small, filled-full, filled-end, filled-tight}
+use borrow.Author.Needs.{needs}
+use Rattle.bellrope.proofs.paging.fill.Statement.{statement}
+use Rattle.bellrope.proofs.paging.fill.Tie as tie
+
+abbrev Inv-loop : tie.InvT-loop
+Inv-loop s n d most buffer₀ items₀ at₀ cursor₀ buffer items at cursor = Filling (captureOf s n d) (cursorOf cursor₀) most buffer₀ buffer at items (cursorOf cursor) × (cursor .position ≤ n)
+
+abbrev μ-loop : tie.MeasureT-loop
+μ-loop s n d most buffer₀ items₀ at₀ cursor₀ buffer items at cursor = most - items
+
+loop-holds : tie.Need-loop-holds Inv-loop μ-loop
+loop-holds c = (fill-start (captureOf (c .before .before .args .s .now) (c .before .before .args .n) (c .before .before .args .d)) (cursorOf (c .before .before .args .c)) (c .before .before .args .most) (c .before .before .args .buffer .now), omega arith)
+
+same-length : tie.Need-same-length Inv-loop μ-loop
+same-length c = c .before .before .loop .inv .0 .long
+
+returns : tie.Need-returns Inv-loop μ-loop
+returns c = let l = c .before .before .loop in filled-end (captureOf (c .before .before .before .before .before .args .s .now) (c .before .before .before .before .before .args .n) (c .before .before .before .before .before .args .d)) (cursorOf (c .before .before .before .before .before .args .c)) (c .before .before .before .before .before .args .most) (c .before .before .before .before .before .args .buffer .now) (l .buffer) (l .at) (l .items) (cursorOf (l .cursor)) (omega arith) (l .inv .0) (c .if1 .taken)
+
+item-at-requires : tie.Need-item-at-requires Inv-loop μ-loop
+item-at-requires c κs = (omega arith, omega arith, omega arith)
+
+size-requires : tie.Need-size-requires Inv-loop μ-loop
+size-requires c κs = search needs
+
+sub-if2 : tie.Need-sub-if2 Inv-loop μ-loop
+sub-if2 c = let s = c .before .before .before .before .loop .inv .0 in omega (arith, s .fits, s .long)
+
+same-length-2 : tie.Need-same-length-2 Inv-loop μ-loop
+same-length-2 c = c .before .before .before .before .before .loop .inv .0 .long
+
+returns-2 : tie.Need-returns-2 Inv-loop μ-loop
+returns-2 c = let l = c .before .before .before .before .before .loop in filled-tight (captureOf (c .before .before .before .before .before .before .before .before .args .s .now) (c .before .before .before .before .before .before .before .before .args .n) (c .before .before .before .before .before .before .before .before .args .d)) (cursorOf (c .before .before .before .before .before .before .before .before .args .c)) (c .before .before .before .before .before .before .before .before .args .most) (c .before .before .before .before .before .before .before .before .args .buffer .now) (l .buffer) (l .at) (l .items) (cursorOf (l .cursor)) (omega arith) (l .inv .0) (itemOf (c .before .before .item-at .result)) (c .before .size .result) (c .before .before .item-at .ensures) (c .before .size .ensures ∙ size-of (c .before .before .item-at .result)) (c .if2 .taken)
+
+sub-put : tie.Need-sub-put Inv-loop μ-loop
+sub-put c = let s = c .before .before .before .before .before .loop .inv .0 in omega (arith, s .fits, s .long)
+
+part-put-start : tie.Need-part-put-start Inv-loop μ-loop
+part-put-start c = let s = c .before .before .before .before .before .loop .inv .0 in omega (arith, s .fits, s .long)
+
+part-put-end : tie.Need-part-put-end Inv-loop μ-loop
+part-put-end c = let s = c .before .before .before .before .before .loop .inv .0 in omega (arith, s .fits, s .long)
+
+put-requires : tie.Need-put-requires Inv-loop μ-loop
+put-requires c κs = let l = c .before .before .before .before .before .before .loop in omega (arith, length-tail (l .at) (l .buffer), c .before .before .size .ensures ∙ size-of (c .before .before .before .item-at .result), c .before .if2 .left)
+
+over-requires : tie.Need-over-requires Inv-loop μ-loop
+over-requires c κs = item-small (captureOf (c .before .before .before .before .before .before .before .before .before .before .before .before .args .s .now) (c .before .before .before .before .before .before .before .before .before .before .before .before .args .n) (c .before .before .before .before .before .before .before .before .before .before .before .before .args .d)) (cursorOf (c .before .before .before .before .before .before .before .before .before .loop .cursor)) 4294967295 (omega arith) (c .before .before .before .before .before .before .item-at .result) (c .before .before .before .before .before .before .item-at .ensures)
+
+add-at : tie.Need-add-at Inv-loop μ-loop
+add-at c = let s = c .before .before .before .before .before .before .before .before .before .before .loop .inv .0 in omega (arith, s .fits, s .long, c .before .before .before .before .before .before .size .ensures ∙ size-of (c .before .before .before .before .before .before .before .item-at .result), size-le (itemOf (c .before .before .before .before .before .before .before .item-at .result)))
+
+add-items : tie.Need-add-items Inv-loop μ-loop
+add-items c = search needs
+
+loop-less : tie.Need-loop-less Inv-loop μ-loop
+loop-less c = search needs
+
+loop-again : tie.Need-loop-again Inv-loop μ-loop
+loop-again c = 
+    let l = c .before .before .before .before .before .before .before .before .before .before .loop in
+    let x = itemOf (c .before .before .before .before .before .before .before .item-at .result) in
+    let e : c .before .before .before .before .before .before .size .result ≡ sizeOf x = c .before .before .before .before .before .before .size .ensures ∙ size-of (c .before .before .before .before .before .before .before .item-at .result) in
+    let same = same-len-mid (l .at) (length (l .buffer) - l .at) (l .buffer) (c .before .before .before .put .last .0) (c .before .before .before .put .kept .0) in
+    let turned = fill-turn (captureOf (c .before .before .before .before .before .before .before .before .before .before .before .before .before .args .s .now) (c .before .before .before .before .before .before .before .before .before .before .before .before .before .args .n) (c .before .before .before .before .before .before .before .before .before .before .before .before .before .args .d)) (cursorOf (c .before .before .before .before .before .before .before .before .before .before .before .before .before .args .c)) (c .before .before .before .before .before .before .before .before .before .before .before .before .before .args .most) (c .before .before .before .before .before .before .before .before .before .before .before .before .before .args .buffer .now) (l .buffer) (l .at) (l .items) (cursorOf (l .cursor)) (cursorOf (c .over .result)) x (c .before .before .before .put .last .0) (l .inv .0) (omega arith) (c .before .before .before .before .before .before .before .item-at .ensures) (c .over .ensures) (omega (arith, c .before .before .before .before .before .if2 .left)) (c .before .before .before .put .ensures) same in
+    (subst (λ (k : ℕ). Filling (captureOf (c .before .before .before .before .before .before .before .before .before .before .before .before .before .args .s .now) (c .before .before .before .before .before .before .before .before .before .before .before .before .before .args .n) (c .before .before .before .before .before .before .before .before .before .before .before .before .before .args .d)) (cursorOf (c .before .before .before .before .before .before .before .before .before .before .before .before .before .args .c)) (c .before .before .before .before .before .before .before .before .before .before .before .before .before .args .most) (c .before .before .before .before .before .before .before .before .before .before .before .before .before .args .buffer .now) (putMid (l .at) (length (l .buffer) - l .at) (l .buffer) (c .before .before .before .put .last .0)) (l .at + k) (l .items + 1) (cursorOf (c .over .result))) (sym e) turned,
+    subst (λ (y : Cursor ℕ). y .position ≤ c .before .before .before .before .before .before .before .before .before .before .before .before .before .args .n) (sym (c .over .ensures)) (within rules (captureOf (c .before .before .before .before .before .before .before .before .before .before .before .before .before .args .s .now) (c .before .before .before .before .before .before .before .before .before .before .before .before .before .args .n) (c .before .before .before .before .before .before .before .before .before .before .before .before .before .args .d)) (sound (captureOf (c .before .before .before .before .before .before .before .before .before .before .before .before .before .args .s .now) (c .before .before .before .before .before .before .before .before .before .before .before .before .before .args .n) (c .before .before .before .before .before .before .before .before .before .before .before .before .before .args .d))) (cursorOf (l .cursor)) x (c .before .before .before .before .before .before .before .item-at .ensures)))
+
+same-length-3 : tie.Need-same-length-3 Inv-loop μ-loop
+same-length-3 c = c .before .loop .inv .0 .long
+
+returns-3 : tie.Need-returns-3 Inv-loop μ-loop
+returns-3 c = let l = c .before .loop in filled-full (captureOf (c .before .before .before .before .args .s .now) (c .before .before .before .before .args .n) (c .before .before .before .before .args .d)) (cursorOf (c .before .before .before .before .args .c)) (c .before .before .before .before .args .most) (c .before .before .before .before .args .buffer .now) (l .buffer) (l .at) (l .items) (cursorOf (l .cursor)) (omega arith) (l .inv .0) (omega arith)
+
+pub fill-spec : {M : Type 1} → statement M
+fill-spec =
+    tie.close
+    (tie.spec
+    Inv-loop
+    μ-loop
+    loop-holds
+    same-length
+    returns
+    item-at-requires
+    size-requires
+    sub-if2
+    same-length-2
+    returns-2
+    sub-put
+    part-put-start
+    part-put-end
+    put-requires
+    over-requires
+    add-at
+    add-items
+    loop-less
+    loop-again
+    same-length-3
+    returns-3)

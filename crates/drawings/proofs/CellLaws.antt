@@ -1,0 +1,44 @@
+-- A search in a list of places, turn by turn, and the name that it gives.
+-- Assumes nothing.
+use mathlib.Core.Path.{_≡_, sym, _∙_}
+use mathlib.Core.List.{List}
+use Prim.Native.Nat.{ℕ, suc, _+_, _<_}
+use native.Mathlib.Numerals.{add-one}
+use native.Mathlib.Omega.{arith}
+use borrow.Author.Tests.{eq-eqb, ne-eqb, lt-ltb, le-ltb}
+use lib.ListN.{length, getD, drop, drop-of-length-le}
+use lib.Seq.{drop-cons}
+use Rattle.channel.specs.declared.Pattern.{Pattern}
+use Rattle.channel.specs.declared.Kind.{Kind}
+use Rattle.channel.specs.Kinds.{patternOf}
+use Rattle.channel.specs.Places.{zerosOf, onesOf, cPlaces, dPlaces}
+use Rattle.drawings.specs.declared.cell.Cell.{Cell}
+use Rattle.drawings.specs.Cells.{indexOf, named, syncCell, besideCell, dName, tailCell, cellOf}
+
+-- an entry equal to p ends the search
+pub index-here : (p : ℕ) (l : List ℕ) (i : ℕ) → i < length l → getD l i 0 ≡ p → indexOf p (drop i l) ≡ 0
+index-here p l i h e = rw (drop-cons l i 0 h, eq-eqb (getD l i 0) p e)
+
+-- any other goes one further
+pub index-next : (p : ℕ) (l : List ℕ) (i : ℕ) → i < length l → ¬ (getD l i 0 ≡ p) → indexOf p (drop i l) ≡ suc (indexOf p (drop (i + 1) l))
+index-next p l i h d = rw (drop-cons l i 0 h, ne-eqb (getD l i 0) p d, add-one)
+
+-- behind the last entry it has found none
+pub index-end : (p : ℕ) (l : List ℕ) (i : ℕ) → length l ≡ i → indexOf p (drop i l) ≡ 0
+index-end p l i e = rw (drop-of-length-le l {i = i} (omega arith))
+
+-- a place that is found has its name by the list
+pub named-in : (ps : List ℕ) (name : ℕ → Cell) (p i : ℕ) (other : Cell) → i ≡ indexOf p ps → i < length ps → named ps name p other ≡ name i
+unfolding named
+named-in ps name p i other e h = rw (lt-ltb (indexOf p ps) (length ps) (omega arith), e)
+
+-- any other place has its name elsewhere
+pub named-out : (ps : List ℕ) (name : ℕ → Cell) (p i : ℕ) (other : Cell) → i ≡ indexOf p ps → ¬ (i < length ps) → named ps name p other ≡ other
+unfolding named
+named-out ps name p i other e h = rw (le-ltb (indexOf p ps) (length ps) (omega arith))
+
+-- what the parts of a kind's cells come to
+pub cell-is : (k : Kind) (p : ℕ) (t : Pattern) (tail d beside r : Cell) → patternOf k ≡ t → tail ≡ tailCell k p → d ≡ named (dPlaces k) (dName k) p tail
+    → beside ≡ besideCell k p d → r ≡ syncCell (zerosOf t) (onesOf t) (cPlaces t) p beside → r ≡ cellOf k p
+unfolding cellOf
+cell-is k p t tail d beside r of-kind behind among besides whole = whole ∙ rw (besides, among, behind, sym of-kind)

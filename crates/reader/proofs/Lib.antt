@@ -1,0 +1,4 @@
+pub mod TailLaws
+pub mod SeenLaws
+pub mod GapLaws
+pub mod ItemLaws

@@ -1,0 +1,128 @@
+-- A frame seen in the twenty octets from p on is a frame that is due at p, and where none is seen none is due.
+-- Assumes nothing.
+use mathlib.Core.Path.{_≡_, refl, sym, _∙_, ap, subst, fun-ext}
+use mathlib.Core.Bool.{Bool, true, false, _&&_, cond}
+use mathlib.Core.List.{List}
+use Prim.Native.Nat.{ℕ, _+_, _≤_, _<_}
+use native.Mathlib.Omega.{arith}
+use native.Mathlib.Nat.{zero-add}
+use borrow.Author.Tests.{eqb-true, ltb-true, lt-ltb}
+use lib.Dec.{eqb, ltb}
+use Rattle.bits.specs.Bit.{bitAt, twenty, bitsFrom}
+use Rattle.bits.proofs.BitLaws.{twenty-bit}
+use Rattle.channel.specs.declared.Direction.{Direction}
+use Rattle.channel.specs.declared.Kind.{Kind}
+use Rattle.channel.specs.Kinds.{bodyOf, leastTail}
+use Rattle.channel.specs.Coding.{Word, wordAt, isBody}
+use Rattle.channel.specs.Verdict.{verdictOf, starts, startsBy, follows, allowed}
+use Rattle.channel.specs.Frames.{Capture, captureOf, Frame, Tail, Due}
+use Rattle.channel.proofs.TailLaws.{tail-one}
+use Rattle.channel.proofs.FrameLaws.{body-cut, one-body}
+use Rattle.channel.proofs.CutLaws.{verdict-cut}
+use Rattle.frame.specs.declared.coding.Found.{Found}
+use Rattle.frame.specs.declared.coding.Found.the-variants.{Is, Nothing}
+use Rattle.frame.specs.Found.{KindOf}
+use Rattle.item.specs.declared.Item.{Item}
+use Rattle.item.specs.Item.{frameOf}
+use Rattle.item.proofs.ItemLaws.{body-le}
+use Rattle.reader.specs.Seen.{Seen}
+
+never : true ≡ false → ⊥
+never e = let z : _≡_ {A = ℕ} 0 1 = cc in omega arith
+
+-- whether a word is a body does not change where it is cut behind the body
+uncut : (d : Direction) (g : Word) (k : Kind) → isBody d (wordAt g 0 (bodyOf k)) k ≡ isBody d g k
+uncut d g k = body-cut d g 0 k ∙ ap (λ (h : Word). isBody d h k) (fun-ext (λ i. ap g (zero-add i)))
+
+-- rule 2, by the verdict that the code has
+allowed-by : (x : ℕ) (g : Word) (k : Kind) (v : ℕ) → v ≡ verdictOf x g k → cond (eqb x 0) (startsBy k v) (follows x k) ≡ allowed x (wordAt g 0 (bodyOf k)) k
+unfolding starts
+allowed-by x g k v e = go (eqb x 0) refl
+  where
+    go : (b : Bool) → eqb x 0 ≡ b → cond b (startsBy k v) (follows x k) ≡ cond b (startsBy k (verdictOf 0 (wordAt g 0 (bodyOf k)) k)) (follows x k)
+    go false q = refl
+    go true q = ap (startsBy k) (e ∙ ap (λ (y : ℕ). verdictOf y g k) (eqb-true x 0 q) ∙ sym (verdict-cut 0 g k))
+
+module _ (f : ℕ → Bool) (n : ℕ) (d : Direction) (x p : ℕ) (o : List ℕ) (octets : o ≡ twenty (bitsFrom f n p)) where
+  abbrev w : Capture
+  w = record { bits = f; n = n; direction = d }
+
+  abbrev g : Word
+  g = bitAt o
+
+  -- a body before n is in the octets
+  word-held : (k : Kind) → p + bodyOf k ≤ n → wordAt g 0 (bodyOf k) ≡ wordAt f p (bodyOf k)
+  word-held k h = fun-ext (λ i. go i (ltb i (bodyOf k)) refl)
+    where
+      go : (i : ℕ) (b : Bool) → ltb i (bodyOf k) ≡ b → b && g (0 + i) ≡ b && f (p + i)
+      go i false e = refl
+      go i true e =
+          let l : i < bodyOf k = ltb-true i (bodyOf k) e in
+          let m : ltb (p + i) n ≡ true = lt-ltb (p + i) n (omega arith) in
+          let t : bitAt (twenty (bitsFrom f n p)) i ≡ ltb (p + i) n && f (p + i) = twenty-bit (bitsFrom f n p) i (omega (arith, body-le k)) in
+          ap g (zero-add i) ∙ ap (λ (s : List ℕ). bitAt s i) octets ∙ t ∙ ap (λ (c : Bool). c && f (p + i)) m
+
+  -- what is due has its body in the octets
+  due-body : (h : Frame) → Due w x p h → isBody d g (h .kind) ≡ true
+  due-body h e =
+      sym (uncut d g (h .kind))
+      ∙ ap (λ (b : Word). isBody d b (h .kind)) (word-held (h .kind) (e .stands .before) ∙ sym (e .stands .bits))
+      ∙ e .stands .holds
+
+  -- no kind: nothing is due
+  pub none-of-no-kind : ((k : Kind) → isBody d g k ≡ false) → (h : Frame) → Due w x p h → ⊥
+  none-of-no-kind lacks h e = never (sym (due-body h e) ∙ lacks (h .kind))
+
+  module _ (k : Kind) (is : isBody d g k ≡ true) where
+    same-kind : (h : Frame) → Due w x p h → h .kind ≡ k
+    same-kind h e = one-body d g (h .kind) k (due-body h e) is
+
+    -- the body runs past n
+    pub none-past : n < p + bodyOf k → (h : Frame) → Due w x p h → ⊥
+    none-past l h e = let q = ap bodyOf (same-kind h e) in omega (arith, e .stands .before)
+
+    -- rule 2 does not allow it
+    pub none-refused : (v : ℕ) → v ≡ verdictOf x g k → cond (eqb x 0) (startsBy k v) (follows x k) ≡ false → (h : Frame) → Due w x p h → ⊥
+    none-refused v j r h e =
+        let q = same-kind h e in
+        let b : h .body ≡ wordAt g 0 (bodyOf (h .kind)) = e .stands .bits ∙ sym (word-held (h .kind) (e .stands .before)) in
+        let a : allowed x (wordAt g 0 (bodyOf (h .kind))) (h .kind) ≡ true = subst (λ (u : Word). allowed x u (h .kind) ≡ true) b (e .allows) in
+        let a′ : allowed x (wordAt g 0 (bodyOf k)) k ≡ true = subst (λ (i : Kind). allowed x (wordAt g 0 (bodyOf i)) i ≡ true) q a in
+        never (sym a′ ∙ sym (allowed-by x g k v j) ∙ r)
+
+    -- the tail is too short
+    pub none-short : (t : ℕ) → Tail w (p + bodyOf k) t → t < leastTail d k → (h : Frame) → Due w x p h → ⊥
+    none-short t whole l h e =
+        let q = same-kind h e in
+        let t′ : Tail w (p + bodyOf k) (h .tail) = subst (λ (i : Kind). Tail w (p + bodyOf i) (h .tail)) q (e .stands .tail) in
+        let m : leastTail d k ≤ h .tail = subst (λ (i : Kind). leastTail d i ≤ h .tail) q (e .stands .least) in
+        omega (arith, tail-one w (p + bodyOf k) t (h .tail) whole t′)
+
+    -- and where nothing is amiss it is due
+    pub seen-due : (v t : ℕ) → p + bodyOf k ≤ n → v ≡ verdictOf x g k → cond (eqb x 0) (startsBy k v) (follows x k) ≡ true → Tail w (p + bodyOf k) t → leastTail d k ≤ t
+        → Due w x p (frameOf k o p t v)
+    seen-due v t l j a whole m =
+        record {
+          stands =
+              record {
+                at = refl;
+                before = l;
+                bits = word-held k l;
+                holds = uncut d g k ∙ is;
+                tail = whole;
+                least = m;
+              };
+          allows = sym (allowed-by x g k v j) ∙ a;
+          judged = j ∙ sym (verdict-cut x g k);
+        }
+
+-- an answer without a frame
+pub seen-nothing : (w : Capture) (x p : ℕ) (i : Item) → i .found ≡ Nothing → ((f : Frame) → Due w x p f → ⊥) → Seen w x p i
+seen-nothing w x p i e h = rw e h
+
+-- an answer by what was found
+pub kind-is : (d : Direction) (g : Word) (r : Found) (k : Kind) → KindOf d g r → r ≡ Is k → isBody d g k ≡ true
+kind-is d g r k h e = let h′ : KindOf d g (Is k) = rw e at h in h′
+
+pub kind-no : (d : Direction) (g : Word) (r : Found) → KindOf d g r → r ≡ Nothing → (k : Kind) → isBody d g k ≡ false
+kind-no d g r h e = let h′ : KindOf d g Nothing = rw e at h in h′

@@ -1,0 +1,116 @@
+-- `reader::gap_end` meets its contract: nothing starts at the places passed, because a fixed bit differs there or no frame is seen.
+-- Assumes nothing.
+use mathlib.Core.Path.{_≡_, refl, sym, _∙_, ap, subst}
+use Prim.Native.Nat.{ℕ, _+_, _-_, _≤_, _<_}
+use native.Mathlib.Omega.{arith}
+use Rattle.channel.specs.Frames.{captureOf}
+use Rattle.reader.specs.Seen.{Starting}
+use Rattle.reader.proofs.GapLaws.{sync-place, none-differs, Passed, passed-more, gap-found, gap-all, not-starting}
+use borrow.Author.Needs.{needs}
+use Rattle.reader.proofs.gap_end.Statement.{statement}
+use Rattle.reader.proofs.gap_end.Tie as tie
+
+abbrev Inv-loop : tie.InvT-loop
+Inv-loop s n d from sync q₀ j₀ q j = (q ≡ q₀) × (j ≤ 9) × (from ≤ q) × (q + 158 ≤ n) × Passed (captureOf s n d) from q
+
+abbrev μ-loop : tie.MeasureT-loop
+μ-loop s n d from sync q₀ j₀ q j = 9 - j
+
+abbrev Inv-places : tie.InvT-places
+Inv-places s n d from sync q₀ q = (from ≤ q) × (q ≤ n) × Passed (captureOf s n d) from q
+
+abbrev μ-places : tie.MeasureT-places
+μ-places s n d from sync q₀ q = n - q
+
+places-holds : tie.Need-places-holds Inv-loop μ-loop Inv-places μ-places
+places-holds c = (omega arith, omega arith, λ i a b. absurd (omega arith))
+
+add-places : tie.Need-add-places Inv-loop μ-loop Inv-places μ-places
+add-places c = search needs
+
+loop-holds : tie.Need-loop-holds Inv-loop μ-loop Inv-places μ-places
+loop-holds c = (refl, omega arith, omega arith, omega arith, c .before .places .inv .2)
+
+array-read-place : tie.Need-array-read-place Inv-loop μ-loop Inv-places μ-places
+array-read-place c = search needs
+
+cast-place : tie.Need-cast-place Inv-loop μ-loop Inv-places μ-places
+cast-place c = omega (arith, sync-place (c .before .loop .j) (omega arith))
+
+add-place : tie.Need-add-place Inv-loop μ-loop Inv-places μ-places
+add-place c = omega (arith, sync-place (c .before .loop .j) (omega arith))
+
+bit-requires : tie.Need-bit-requires Inv-loop μ-loop Inv-places μ-places
+bit-requires c κs = omega (arith, sync-place (c .before .loop .j) (omega arith))
+
+add-q : tie.Need-add-q Inv-loop μ-loop Inv-places μ-places
+add-q c = search needs
+
+places-less : tie.Need-places-less Inv-loop μ-loop Inv-places μ-places
+places-less c = search needs
+
+places-again : tie.Need-places-again Inv-loop μ-loop Inv-places μ-places
+places-again c = 
+    let l = c .before .before .before .loop in
+    (omega arith, omega arith, passed-more (captureOf (c .before .before .before .before .before .before .before .args .s .now) (c .before .before .before .before .before .before .before .args .n) (c .before .before .before .before .before .before .before .args .d)) (c .before .before .before .before .before .before .before .args .from) (l .q) (l .inv .4) (none-differs (captureOf (c .before .before .before .before .before .before .before .args .s .now) (c .before .before .before .before .before .before .before .args .n) (c .before .before .before .before .before .before .before .args .d)) (l .q) (l .j) (c .before .bit .result) (omega arith) (c .before .bit .ensures) (c .if1 .taken)))
+
+add-j : tie.Need-add-j Inv-loop μ-loop Inv-places μ-places
+add-j c = search needs
+
+loop-less : tie.Need-loop-less Inv-loop μ-loop Inv-places μ-places
+loop-less c = search needs
+
+loop-again : tie.Need-loop-again Inv-loop μ-loop Inv-places μ-places
+loop-again c = let l = c .before .before .before .loop in (l .inv .0, omega arith, omega arith, omega arith, l .inv .4)
+
+starts-at-requires : tie.Need-starts-at-requires Inv-loop μ-loop Inv-places μ-places
+starts-at-requires c κs = search needs
+
+returns : tie.Need-returns Inv-loop μ-loop Inv-places μ-places
+returns c = 
+    let l = c .before .before .before .loop in
+    gap-found (captureOf (c .before .before .before .before .before .before .before .args .s .now) (c .before .before .before .before .before .before .before .args .n) (c .before .before .before .before .before .before .before .args .d)) (c .before .before .before .before .before .before .before .args .from) (l .q) (l .inv .4) (omega arith) (omega arith) (c .before .starts-at .result) (c .before .starts-at .ensures) (c .if2 .taken)
+
+add-q-2 : tie.Need-add-q-2 Inv-loop μ-loop Inv-places μ-places
+add-q-2 c = search needs
+
+places-less-2 : tie.Need-places-less-2 Inv-loop μ-loop Inv-places μ-places
+places-less-2 c = search needs
+
+places-again-2 : tie.Need-places-again-2 Inv-loop μ-loop Inv-places μ-places
+places-again-2 c = 
+    let l = c .before .before .before .loop in
+    (omega arith, omega arith, passed-more (captureOf (c .before .before .before .before .before .before .before .args .s .now) (c .before .before .before .before .before .before .before .args .n) (c .before .before .before .before .before .before .before .args .d)) (c .before .before .before .before .before .before .before .args .from) (l .q) (l .inv .4) (not-starting (captureOf (c .before .before .before .before .before .before .before .args .s .now) (c .before .before .before .before .before .before .before .args .n) (c .before .before .before .before .before .before .before .args .d)) (l .q) (c .before .starts-at .result) (c .before .starts-at .ensures) (c .if2 .left)))
+
+returns-2 : tie.Need-returns-2 Inv-loop μ-loop Inv-places μ-places
+returns-2 c = 
+    let l = c .before .places in
+    gap-all (captureOf (c .before .before .before .args .s .now) (c .before .before .before .args .n) (c .before .before .before .args .d)) (c .before .before .before .args .from) (l .q) (l .inv .2) (omega arith) (omega arith) (omega arith)
+
+pub gap-end-spec : {M : Type 1} → statement M
+gap-end-spec =
+    tie.close
+    (tie.spec
+    Inv-loop
+    μ-loop
+    Inv-places
+    μ-places
+    places-holds
+    add-places
+    loop-holds
+    array-read-place
+    cast-place
+    add-place
+    bit-requires
+    add-q
+    places-less
+    places-again
+    add-j
+    loop-less
+    loop-again
+    starts-at-requires
+    returns
+    add-q-2
+    places-less-2
+    places-again-2
+    returns-2)

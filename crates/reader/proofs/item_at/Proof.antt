@@ -1,0 +1,45 @@
+-- `reader::item_at` meets its contract: the frame that is due, or the gap.
+-- Assumes nothing.
+use native.Mathlib.Omega.{arith}
+use Rattle.channel.specs.Frames.{captureOf}
+use Rattle.reader.proofs.ItemLaws.{item-frame, item-gap}
+use borrow.Author.Needs.{needs}
+use Rattle.reader.proofs.item_at.Statement.{statement}
+use Rattle.reader.proofs.item_at.Tie as tie
+
+frame-at-requires : tie.Need-frame-at-requires
+frame-at-requires c κs = search needs
+
+enum-told : tie.Need-enum-told
+enum-told c = search needs
+
+enum-told-2 : tie.Need-enum-told-2
+enum-told-2 c = search needs
+
+add-gap-end : tie.Need-add-gap-end
+add-gap-end c = search needs
+
+gap-end-requires : tie.Need-gap-end-requires
+gap-end-requires c κs = search needs
+
+sub-t11 : tie.Need-sub-t11
+sub-t11 c = search needs
+
+returns : tie.Need-returns
+returns c = item-frame (captureOf (c .before .before .before .before .args .s .now) (c .before .before .before .before .args .n) (c .before .before .before .before .args .d)) (c .before .before .before .before .args .c) (c .before .before .frame-at .result) (c .before .before .frame-at .ensures) (c .enum-told .given .0 .0) (c .enum-told .given .1)
+
+returns-2 : tie.Need-returns-2
+returns-2 c = item-gap (captureOf (c .before .before .before .before .before .args .s .now) (c .before .before .before .before .before .args .n) (c .before .before .before .before .before .args .d)) (c .before .before .before .before .before .args .c) (c .before .before .before .frame-at .result) (c .before .before .before .frame-at .ensures) (c .before .enum-told2 .given .1) (c .gap-end .result) (omega arith) (c .gap-end .ensures)
+
+pub item-at-spec : {M : Type 1} → statement M
+item-at-spec =
+    tie.close
+    (tie.spec
+    frame-at-requires
+    enum-told
+    enum-told-2
+    add-gap-end
+    gap-end-requires
+    sub-t11
+    returns
+    returns-2)

@@ -1,0 +1,25 @@
+-- `reader::starts_at` meets its contract: by the frame that is seen in context 0.
+-- Assumes nothing.
+use Rattle.channel.specs.Frames.{captureOf}
+use Rattle.reader.proofs.GapLaws.{start-seen, none-seen}
+use borrow.Author.Needs.{needs}
+use Rattle.reader.proofs.starts_at.Statement.{statement}
+use Rattle.reader.proofs.starts_at.Tie as tie
+
+frame-at-requires : tie.Need-frame-at-requires
+frame-at-requires c κs = search needs
+
+enum-told : tie.Need-enum-told
+enum-told c = search needs
+
+enum-told-2 : tie.Need-enum-told-2
+enum-told-2 c = search needs
+
+returns : tie.Need-returns
+returns c = start-seen (captureOf (c .before .before .before .before .args .s .now) (c .before .before .before .before .args .n) (c .before .before .before .before .args .d)) (c .before .before .before .before .args .q) (c .before .before .frame-at .result) (c .enum-told .given .0 .0) (c .before .before .frame-at .ensures) (c .enum-told .given .1)
+
+returns-2 : tie.Need-returns-2
+returns-2 c = none-seen (captureOf (c .before .before .before .before .args .s .now) (c .before .before .before .before .args .n) (c .before .before .before .before .args .d)) (c .before .before .before .before .args .q) (c .before .before .frame-at .result) (c .before .before .frame-at .ensures) (c .enum-told2 .given .1)
+
+pub starts-at-spec : {M : Type 1} → statement M
+starts-at-spec = tie.close (tie.spec frame-at-requires enum-told enum-told-2 returns returns-2)

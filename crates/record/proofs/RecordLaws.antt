@@ -1,0 +1,162 @@
+-- The record of an item: its size, and the bytes that the code puts.
+-- Assumes nothing.
+use mathlib.Core.Path.{_≡_, refl, sym, _∙_, ap}
+use mathlib.Core.List.{List, [], _∷_, _++_, map}
+use Prim.Native.Nat.{ℕ, _+_, _*_, _-_, _/_, _%_, _^_, _<_, _≤_}
+use native.Mathlib.Nat.{sub-zero, div-one}
+use native.Mathlib.Numerals.{add-one}
+use native.Mathlib.Omega.{arith}
+use lib.Dec.{lit<}
+use lib.ListN.{length, getD, take, drop, set, length-append, length-drop}
+use lib.Seq.{length-take-le, take-length, take-at, drop-append-add, drop-drop, sets, sets-eq, paste, paste-suc}
+use Rattle.reading.specs.Reading as reading
+use Rattle.bits.specs.Bit.{bitAt, number, count}
+use Rattle.bits.proofs.CountLaws.{length-map-count}
+use Rattle.channel.specs.declared.Kind.{Kind}
+use Rattle.channel.specs.declared.Kind.the-variants.{Speech, Data, Om, Configuration, NoSpeech, Lower, Amr670, Amr740}
+use Rattle.channel.specs.Kinds.{kindNo, bodyOf}
+use Rattle.channel.specs.Coding.{Word, wordAt, bitsAt}
+use Rattle.channel.specs.Places.{dPlaces}
+use Rattle.channel.specs.Control.{fromTop, control, extended}
+use Rattle.channel.specs.Frames.{Frame}
+use Rattle.channel.proofs.CutLaws.{control-cut, extended-cut, d-cut}
+use Rattle.dbits.specs.DBits.{dBytes}
+use Rattle.dbits.proofs.DBitLaws.{byte-of}
+use Rattle.frame.specs.declared.coding.Found.{Found}
+use Rattle.frame.specs.declared.coding.Found.the-variants.{Is, Nothing}
+use Rattle.item.specs.declared.Item.{Item}
+use Rattle.item.specs.Item.{frameOf, itemBy, itemOf}
+use Rattle.record.specs.Record.{wide, dLength, sizeOf, recordOf}
+use Rattle.record.specs.Size.{sizeBy}
+
+-- the D bits of a kind take 19 bytes at most
+pub d-length-le : (k : Kind) → dLength k ≤ 19
+d-length-le Speech = lit< tt
+d-length-le Data = lit< tt
+d-length-le Om = lit< tt
+d-length-le Configuration = lit< tt
+d-length-le NoSpeech = lit< tt
+d-length-le Lower = lit< tt
+d-length-le Amr670 = lit< tt
+d-length-le Amr740 = lit< tt
+
+-- the D bits of every kind fill 19 bytes, the last ones with zeros
+pub length-dBytes : (g : Word) (k : Kind) → length (dBytes g k) ≡ 19
+unfolding dBytes
+length-dBytes g k = length-map-count (λ j. fromTop (drop (8 * j) (bitsAt g (dPlaces k)))) 19 0
+
+-- a record is as long as its size says
+pub record-length : (x : reading.Item Frame) → length (recordOf x) ≡ sizeOf x
+unfolding recordOf
+record-length (reading.gap start length) = refl
+record-length (reading.frame f) =
+    let l : length (take (dLength (f .kind)) (dBytes (f .body) (f .kind))) ≡ dLength (f .kind) =
+    length-take-le (dLength (f .kind)) (dBytes (f .body) (f .kind)) (rw (length-dBytes (f .body) (f .kind)) (d-length-le (f .kind))) in
+    omega arith
+
+-- no record is empty
+pub size-pos : (x : reading.Item Frame) → 0 < sizeOf x
+size-pos (reading.gap start length) = lit< tt
+size-pos (reading.frame f) = omega arith
+
+-- no record has more than 31 bytes
+pub size-le : (x : reading.Item Frame) → sizeOf x ≤ 31
+size-le (reading.gap start length) = lit< tt
+size-le (reading.frame f) = omega (arith, d-length-le (f .kind))
+
+-- the size by what is found, whatever else the item holds
+size-by : (found : Found) (octets : List ℕ) (start length verdict : ℕ) → sizeBy found ≡ sizeOf (itemBy found octets start length verdict)
+size-by (Is k) octets start length verdict = refl
+size-by Nothing octets start length verdict = refl
+
+-- the size by what is found is that of the record of the item
+pub size-of : (i : Item) → sizeBy (i .found) ≡ sizeOf (itemOf i)
+size-of i = size-by (i .found) (i .octets) (i .start) (i .length) (i .verdict)
+
+-- a field of the bits at some places, shifted up by what is missing to eight, is the byte that has them from the top
+pub top-of : (g : Word) (ps : List ℕ) (field r : ℕ) → length ps ≤ 8 → field ≡ number (bitsAt g ps) → r ≡ field * 2 ^ (8 - length ps) % 256 → r ≡ fromTop (bitsAt g ps)
+top-of g ps field r h read put =
+    byte-of g ps 0 0 (length ps) field r (omega arith) (omega arith) (rw (sub-zero (length ps), take-length ps) read) (rw (sub-zero (length ps)) put)
+
+-- a number in four bytes, as the code divides it
+abbrev four : ℕ → List ℕ
+four x = x / 16777216 % 256 ∷ x / 65536 % 256 ∷ x / 256 % 256 ∷ x % 256 ∷ []
+
+-- these are the four bytes of the definition
+four-wide : (x : ℕ) → four x ≡ wide 4 x
+four-wide x = let e : x / 1 ≡ x = div-one x in rw e
+
+-- the nine bytes that the code stores one by one
+pub front-bytes : (kind start span : ℕ) (out : List ℕ) → 9 ≤ length out → sets out 0 (kind ∷ four start ++ four span) ≡ kind ∷ wide 4 start ++ wide 4 span ++ drop 9 out
+front-bytes kind start span out h =
+    sets-eq (kind ∷ four start ++ four span) out 0 (omega arith)
+    ∙ ap (λ (b : List ℕ). kind ∷ b ++ four span ++ drop 9 out) (four-wide start) ∙ ap (λ (b : List ℕ). kind ∷ wide 4 start ++ b ++ drop 9 out) (four-wide span)
+
+-- one byte more is copied
+pub copy-turn : (out out₀ bytes : List ℕ) (j : ℕ) → out ≡ paste out₀ 12 bytes j → 12 + j < length out₀ → j < length bytes
+    → set out (12 + j) (getD bytes j 0) ≡ paste out₀ 12 bytes (j + 1)
+copy-turn out out₀ bytes j e h l = rw (e, add-one) (paste-suc out₀ 12 bytes j 0 h l)
+
+-- the D bits of a body, as bytes, are those of the octets that it is cut from
+bytes-cut : (g : Word) (k : Kind) → dBytes (wordAt g 0 (bodyOf k)) k ≡ dBytes g k
+unfolding dBytes
+bytes-cut g k = ap (λ bs. map (λ j. fromTop (drop (8 * j) bs)) (count 19 0)) (d-cut g k)
+
+-- the record of a frame that is held, by its octets
+pub record-is : (k : Kind) (octets : List ℕ) (start tail verdict : ℕ) → recordOf (reading.frame (frameOf k octets start tail verdict))
+    ≡ kindNo k ∷ wide 4 start ++ wide 4 tail ++ (control (bitAt octets) k ∷ extended (bitAt octets) k ∷ verdict ∷ []) ++ take (dLength k) (dBytes (bitAt octets) k)
+unfolding recordOf
+record-is k octets start tail verdict = rw (control-cut (bitAt octets) k, extended-cut (bitAt octets) k, bytes-cut (bitAt octets) k)
+
+-- a part that has nine bytes h at the front, and d behind them
+module _ (h d bytes : List ℕ) (c x v n : ℕ) (nine : length h ≡ 9) (three : 3 ≤ length d) where
+  -- three bytes stored behind the nine
+  stored : set (set (set (h ++ d) 9 c) 10 x) 11 v ≡ (h ++ (c ∷ x ∷ v ∷ [])) ++ drop 3 d
+  stored =
+      let l : 9 + 3 ≤ length (h ++ d) = omega (arith, length-append h d) in
+      let t : take 9 (h ++ d) ≡ h = take-at h d 9 nine in
+      let r : drop (9 + 3) (h ++ d) ≡ drop 3 d = rw nine at (drop-append-add h d 3) in
+      sets-eq (c ∷ x ∷ v ∷ []) (h ++ d) 9 l ∙ rw (t, r)
+
+  -- and n copied behind those: what lies behind them is kept
+  laid : paste (set (set (set (h ++ d) 9 c) 10 x) 11 v) 12 bytes n ≡ (h ++ (c ∷ x ∷ v ∷ []) ++ take n bytes) ++ drop (3 + n) d
+  laid =
+      let p = h ++ (c ∷ x ∷ v ∷ []) in
+      let l : length p ≡ 12 = length-append h (c ∷ x ∷ v ∷ []) ∙ ap (λ m. m + 3) nine in
+      let t : take 12 (p ++ drop 3 d) ≡ p = take-at p (drop 3 d) 12 l in
+      let r : drop (12 + n) (p ++ drop 3 d) ≡ drop n (drop 3 d) = rw l at (drop-append-add p (drop 3 d) n) in
+      rw (stored, t, r, drop-drop)
+
+-- an item that is held, by what is found
+module _ (i : Item) where
+  -- the size of the record of a frame
+  pub size-frame : (k : Kind) → i .found ≡ Is k → sizeOf (itemOf i) ≡ 12 + dLength k
+  size-frame k e = rw e
+
+  -- the size of the record of a gap
+  pub size-gap : i .found ≡ Nothing → sizeOf (itemOf i) ≡ 9
+  size-gap e = rw e
+
+  -- what is put for a frame is its record
+  pub frame-put : (k : Kind) (out front last : List ℕ) (kind c x : ℕ) → i .found ≡ Is k → sizeOf (itemOf i) ≤ length out → kind ≡ kindNo k
+      → front ≡ kind ∷ wide 4 (i .start) ++ wide 4 (i .length) ++ drop 9 out → c ≡ control (bitAt (i .octets)) k → x ≡ extended (bitAt (i .octets)) k
+      → last ≡ paste (set (set (set front 9 c) 10 x) 11 (i .verdict)) 12 (dBytes (bitAt (i .octets)) k) (dLength k) → last ≡ recordOf (itemOf i) ++ drop (sizeOf (itemOf i)) out
+  frame-put k out front last kind c x e fits en ef ec ex el =
+      let h = kindNo k ∷ wide 4 (i .start) ++ wide 4 (i .length) in
+      let g = bitAt (i .octets) in
+      let s = size-frame k e in
+      let three : 3 ≤ length (drop 9 out) = omega (arith, length-drop 9 out) in
+      let f : front ≡ h ++ drop 9 out = ef ∙ ap (λ (b : ℕ). b ∷ wide 4 (i .start) ++ wide 4 (i .length) ++ drop 9 out) en in
+      let a : 9 + (3 + dLength k) ≡ 12 + dLength k = omega arith in
+      let r : drop (3 + dLength k) (drop 9 out) ≡ drop (12 + dLength k) out = drop-drop (3 + dLength k) 9 out ∙ ap (λ (m : ℕ). drop m out) a in
+      let bytes = h ++ (control g k ∷ extended g k ∷ i .verdict ∷ []) ++ take (dLength k) (dBytes g k) in
+      let put : paste (set (set (set front 9 c) 10 x) 11 (i .verdict)) 12 (dBytes g k) (dLength k) ≡ bytes ++ drop (3 + dLength k) (drop 9 out) =
+      rw (f, ec, ex) (laid h (drop 9 out) (dBytes g k) (control g k) (extended g k) (i .verdict) (dLength k) refl three) in
+      let is : recordOf (itemOf i) ++ drop (sizeOf (itemOf i)) out ≡ bytes ++ drop (12 + dLength k) out =
+      rw (e, record-is k (i .octets) (i .start) (i .length) (i .verdict)) in
+      el ∙ put ∙ ap (λ (t : List ℕ). bytes ++ t) r ∙ sym is
+
+  -- what is put for a gap is its record
+  pub gap-put : (out last : List ℕ) → i .found ≡ Nothing → last ≡ 0 ∷ wide 4 (i .start) ++ wide 4 (i .length) ++ drop 9 out → last ≡ recordOf (itemOf i) ++ drop (sizeOf (itemOf i)) out
+  unfolding recordOf
+  gap-put out last e el = el ∙ rw e
