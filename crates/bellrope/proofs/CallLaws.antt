@@ -74,8 +74,9 @@ module _ (capture : List ℕ) (n direction position context most : ℕ) (buffer 
       w = captureOf capture n d
 
       paged : Paged (captureOf capture n d) (cursorAt position context) most buffer a after
-      paged =
-          (f .page,
-          f .longest,
-          r ∙ answered (captureOf capture n d) (cursorAt position context) (f .page) items bytes cursor (f .counted) (f .sized) (f .moved),
-          f .written ∙ ap (λ (k : ℕ). records (f .page) ++ drop k buffer) (f .sized))
+      paged = (
+        f .page,
+        f .longest,
+        r ∙ answered (captureOf capture n d) (cursorAt position context) (f .page) items bytes cursor (f .counted) (f .sized) (f .moved),
+        f .written ∙ ap (λ (k : ℕ). records (f .page) ++ drop k buffer) (f .sized),
+      )

@@ -129,7 +129,8 @@ module _ (capture : List ℕ) (n direction position context most : ℕ) (buffer 
 
       go : (number : ℕ) → PagedBy number w c most buffer a after → PagedBy number w c most buffer b later → (a ≡ b) × (after ≡ later)
       go zero (xs, p, e, q) (ys, r, f, s) =
-          let z : xs ≡ ys = page-one w c most (length buffer) xs ys p r in
-          (e ∙ ap (λ (l : List (Item Frame)). cond (firstLeft w c l) (refused 4 position context) (taken c l)) z ∙ sym f,
-          q ∙ ap (λ (l : List (Item Frame)). records l ++ drop (length (records l)) buffer) z ∙ sym s)
+          let z : xs ≡ ys = page-one w c most (length buffer) xs ys p r in (
+            e ∙ ap (λ (l : List (Item Frame)). cond (firstLeft w c l) (refused 4 position context) (taken c l)) z ∙ sym f,
+            q ∙ ap (λ (l : List (Item Frame)). records l ++ drop (length (records l)) buffer) z ∙ sym s,
+          )
       go (suc number) x y = (x .0 ∙ sym (y .0), x .1 ∙ sym (y .1))

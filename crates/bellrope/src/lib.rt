@@ -3,8 +3,6 @@ mod paging;
 
 pub use paging::bellrope_page;
 
-
-
 // What a call answers: its number (0, or that of the refusal), the index of the record refused, the items and bytes, and the cursor moved on.
 #[repr(C)]
 pub struct Answer {

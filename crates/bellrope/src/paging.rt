@@ -158,6 +158,13 @@ pub extern "C" fn bellrope_page(
         position: position as usize,
         context: context as u8,
     };
-    let page = fill(capture, n as usize, direction_of(direction), c, most, buffer);
+    let page = fill(
+        capture,
+        n as usize,
+        direction_of(direction),
+        c,
+        most,
+        buffer,
+    );
     answer(n, position, context, page)
 }

@@ -21,7 +21,9 @@ returns : tie.Need-returns
 returns c = rw (eq-eqb (c .before .before .args .x) 0 (c .before .if1 .taken)) (c .starts .ensures)
 
 returns-2 : tie.Need-returns-2
-returns-2 c = c .follows-in .ensures ∙ sym (ap (λ (b : Bool). cond b (startsBy (c .before .before .args .k) (c .before .before .args .v)) (follows (c .before .before .args .x) (c .before .before .args .k))) (ne-eqb (c .before .before .args .x) 0 (c .before .if1 .left)))
+returns-2 c =
+    let a = c .before .before .args in
+    c .follows-in .ensures ∙ sym (ap (λ (b : Bool). cond b (startsBy (a .k) (a .v)) (follows (a .x) (a .k))) (ne-eqb (a .x) 0 (c .before .if1 .left)))
 
 pub allowed-in-spec : {M : Type 1} → statement M
 allowed-in-spec = tie.close (tie.spec starts-requires follows-in-requires returns returns-2)

@@ -51,7 +51,9 @@ returns-5 : tie.Need-returns-5
 returns-5 c = rw (c .enum-told5 .given .1) (and-true (eqb (c .before .before .args .v % 16) 0))
 
 returns-6 : tie.Need-returns-6
-returns-6 c = rw (c .before .enum-told6 .given .1, eq-eqb (c .before .before .before .args .v % 16) 0 (c .if1 .taken)) (below-128 (c .before .before .before .args .v))
+returns-6 c =
+    let a = c .before .before .before .args in
+    rw (c .before .enum-told6 .given .1, eq-eqb (a .v % 16) 0 (c .if1 .taken)) (below-128 (a .v))
 
 returns-7 : tie.Need-returns-7
 returns-7 c = rw (c .before .enum-told6 .given .1, ne-eqb (c .before .before .before .args .v % 16) 0 (c .if1 .left))

@@ -31,7 +31,12 @@ no-frame-requires : tie.Need-no-frame-requires
 no-frame-requires c κs = search needs
 
 returns : tie.Need-returns
-returns c = seen-nothing (captureOf (c .before .before .before .before .before .before .before .before .before .args .s .now) (c .before .before .before .before .before .before .before .before .before .args .n) (c .before .before .before .before .before .before .before .before .before .args .d)) (c .before .before .before .before .before .before .before .before .before .args .x) (c .before .before .before .before .before .before .before .before .before .args .p) (c .no-frame .result) (c .no-frame .ensures) (none-past (bitAt (c .before .before .before .before .before .before .before .before .before .args .s .now)) (c .before .before .before .before .before .before .before .before .before .args .n) (c .before .before .before .before .before .before .before .before .before .args .d) (c .before .before .before .before .before .before .before .before .before .args .x) (c .before .before .before .before .before .before .before .before .before .args .p) (c .before .before .before .before .before .before .before .octets .result) (c .before .before .before .before .before .before .before .octets .ensures) (c .before .before .before .before .k .given .0 .0) (kind-is (c .before .before .before .before .before .before .before .before .before .args .d) (bitAt (c .before .before .before .before .before .before .before .octets .result)) (c .before .before .before .before .before .before .kind-of .result) (c .before .before .before .before .k .given .0 .0) (c .before .before .before .before .before .before .kind-of .ensures) (c .before .before .before .before .k .given .1)) (omega (arith, c .before .before .body .ensures)))
+returns c =
+    let a = c .before .before .before .before .before .before .before .before .before .args in
+    let the-octets = c .before .before .before .before .before .before .before .octets in
+    let the-kind-of = c .before .before .before .before .before .before .kind-of in
+    let the-k = c .before .before .before .before .k in
+    seen-nothing (captureOf (a .s .now) (a .n) (a .d)) (a .x) (a .p) (c .no-frame .result) (c .no-frame .ensures) (none-past (bitAt (a .s .now)) (a .n) (a .d) (a .x) (a .p) (the-octets .result) (the-octets .ensures) (the-k .given .0 .0) (kind-is (a .d) (bitAt (the-octets .result)) (the-kind-of .result) (the-k .given .0 .0) (the-kind-of .ensures) (the-k .given .1)) (omega (arith, c .before .before .body .ensures)))
 
 verdict-in-requires : tie.Need-verdict-in-requires
 verdict-in-requires c κs = search needs
@@ -43,7 +48,14 @@ no-frame-requires-2 : tie.Need-no-frame-requires-2
 no-frame-requires-2 c κs = search needs
 
 returns-2 : tie.Need-returns-2
-returns-2 c = seen-nothing (captureOf (c .before .before .before .before .before .before .before .before .before .before .before .before .args .s .now) (c .before .before .before .before .before .before .before .before .before .before .before .before .args .n) (c .before .before .before .before .before .before .before .before .before .before .before .before .args .d)) (c .before .before .before .before .before .before .before .before .before .before .before .before .args .x) (c .before .before .before .before .before .before .before .before .before .before .before .before .args .p) (c .no-frame2 .result) (c .no-frame2 .ensures) (none-refused (bitAt (c .before .before .before .before .before .before .before .before .before .before .before .before .args .s .now)) (c .before .before .before .before .before .before .before .before .before .before .before .before .args .n) (c .before .before .before .before .before .before .before .before .before .before .before .before .args .d) (c .before .before .before .before .before .before .before .before .before .before .before .before .args .x) (c .before .before .before .before .before .before .before .before .before .before .before .before .args .p) (c .before .before .before .before .before .before .before .before .before .before .octets .result) (c .before .before .before .before .before .before .before .before .before .before .octets .ensures) (c .before .before .before .before .before .before .before .k .given .0 .0) (kind-is (c .before .before .before .before .before .before .before .before .before .before .before .before .args .d) (bitAt (c .before .before .before .before .before .before .before .before .before .before .octets .result)) (c .before .before .before .before .before .before .before .before .before .kind-of .result) (c .before .before .before .before .before .before .before .k .given .0 .0) (c .before .before .before .before .before .before .before .before .before .kind-of .ensures) (c .before .before .before .before .before .before .before .k .given .1)) (c .before .before .before .verdict-in .result) (c .before .before .before .verdict-in .ensures) (sym (c .before .before .allowed-in .ensures) ∙ not-true (c .before .before .allowed-in .result) (c .before .if2 .taken)))
+returns-2 c =
+    let a = c .before .before .before .before .before .before .before .before .before .before .before .before .args in
+    let the-octets = c .before .before .before .before .before .before .before .before .before .before .octets in
+    let the-kind-of = c .before .before .before .before .before .before .before .before .before .kind-of in
+    let the-k = c .before .before .before .before .before .before .before .k in
+    let the-verdict-in = c .before .before .before .verdict-in in
+    let the-allowed-in = c .before .before .allowed-in in
+    seen-nothing (captureOf (a .s .now) (a .n) (a .d)) (a .x) (a .p) (c .no-frame2 .result) (c .no-frame2 .ensures) (none-refused (bitAt (a .s .now)) (a .n) (a .d) (a .x) (a .p) (the-octets .result) (the-octets .ensures) (the-k .given .0 .0) (kind-is (a .d) (bitAt (the-octets .result)) (the-kind-of .result) (the-k .given .0 .0) (the-kind-of .ensures) (the-k .given .1)) (the-verdict-in .result) (the-verdict-in .ensures) (sym (the-allowed-in .ensures) ∙ not-true (the-allowed-in .result) (c .before .if2 .taken)))
 
 tail-at-requires : tie.Need-tail-at-requires
 tail-at-requires c κs = search needs
@@ -55,7 +67,13 @@ no-frame-requires-3 : tie.Need-no-frame-requires-3
 no-frame-requires-3 c κs = search needs
 
 returns-3 : tie.Need-returns-3
-returns-3 c = seen-nothing (captureOf (c .before .before .before .before .before .before .before .before .before .before .before .before .before .before .before .args .s .now) (c .before .before .before .before .before .before .before .before .before .before .before .before .before .before .before .args .n) (c .before .before .before .before .before .before .before .before .before .before .before .before .before .before .before .args .d)) (c .before .before .before .before .before .before .before .before .before .before .before .before .before .before .before .args .x) (c .before .before .before .before .before .before .before .before .before .before .before .before .before .before .before .args .p) (c .no-frame3 .result) (c .no-frame3 .ensures) (none-short (bitAt (c .before .before .before .before .before .before .before .before .before .before .before .before .before .before .before .args .s .now)) (c .before .before .before .before .before .before .before .before .before .before .before .before .before .before .before .args .n) (c .before .before .before .before .before .before .before .before .before .before .before .before .before .before .before .args .d) (c .before .before .before .before .before .before .before .before .before .before .before .before .before .before .before .args .x) (c .before .before .before .before .before .before .before .before .before .before .before .before .before .before .before .args .p) (c .before .before .before .before .before .before .before .before .before .before .before .before .before .octets .result) (c .before .before .before .before .before .before .before .before .before .before .before .before .before .octets .ensures) (c .before .before .before .before .before .before .before .before .before .before .k .given .0 .0) (kind-is (c .before .before .before .before .before .before .before .before .before .before .before .before .before .before .before .args .d) (bitAt (c .before .before .before .before .before .before .before .before .before .before .before .before .before .octets .result)) (c .before .before .before .before .before .before .before .before .before .before .before .before .kind-of .result) (c .before .before .before .before .before .before .before .before .before .before .k .given .0 .0) (c .before .before .before .before .before .before .before .before .before .before .before .before .kind-of .ensures) (c .before .before .before .before .before .before .before .before .before .before .k .given .1)) (c .before .before .before .tail-at .result) (subst (λ (q : ℕ). Tail (captureOf (c .before .before .before .before .before .before .before .before .before .before .before .before .before .before .before .args .s .now) (c .before .before .before .before .before .before .before .before .before .before .before .before .before .before .before .args .n) (c .before .before .before .before .before .before .before .before .before .before .before .before .before .before .before .args .d)) q (c .before .before .before .tail-at .result)) (ap (λ (b : ℕ). c .before .before .before .before .before .before .before .before .before .before .before .before .before .before .before .args .p + b) (c .before .before .before .before .before .before .before .before .body .ensures)) (c .before .before .before .tail-at .ensures (c .before .before .before .before .before .before .before .before .before .before .before .before .before .before .before .args .d))) (omega (arith, c .before .before .least-tail .ensures)))
+returns-3 c =
+    let a = c .before .before .before .before .before .before .before .before .before .before .before .before .before .before .before .args in
+    let the-octets = c .before .before .before .before .before .before .before .before .before .before .before .before .before .octets in
+    let the-kind-of = c .before .before .before .before .before .before .before .before .before .before .before .before .kind-of in
+    let the-k = c .before .before .before .before .before .before .before .before .before .before .k in
+    let the-tail-at = c .before .before .before .tail-at in
+    seen-nothing (captureOf (a .s .now) (a .n) (a .d)) (a .x) (a .p) (c .no-frame3 .result) (c .no-frame3 .ensures) (none-short (bitAt (a .s .now)) (a .n) (a .d) (a .x) (a .p) (the-octets .result) (the-octets .ensures) (the-k .given .0 .0) (kind-is (a .d) (bitAt (the-octets .result)) (the-kind-of .result) (the-k .given .0 .0) (the-kind-of .ensures) (the-k .given .1)) (the-tail-at .result) (subst (λ (q : ℕ). Tail (captureOf (a .s .now) (a .n) (a .d)) q (the-tail-at .result)) (ap (λ (b : ℕ). a .p + b) (c .before .before .before .before .before .before .before .before .body .ensures)) (the-tail-at .ensures (a .d))) (omega (arith, c .before .before .least-tail .ensures)))
 
 enum-told : tie.Need-enum-told
 enum-told c = search needs
@@ -64,10 +82,23 @@ no-frame-requires-4 : tie.Need-no-frame-requires-4
 no-frame-requires-4 c κs = search needs
 
 returns-4 : tie.Need-returns-4
-returns-4 c = seen-due (bitAt (c .before .before .before .before .before .before .before .before .before .before .before .before .before .before .args .s .now)) (c .before .before .before .before .before .before .before .before .before .before .before .before .before .before .args .n) (c .before .before .before .before .before .before .before .before .before .before .before .before .before .before .args .d) (c .before .before .before .before .before .before .before .before .before .before .before .before .before .before .args .x) (c .before .before .before .before .before .before .before .before .before .before .before .before .before .before .args .p) (c .before .before .before .before .before .before .before .before .before .before .before .before .octets .result) (c .before .before .before .before .before .before .before .before .before .before .before .before .octets .ensures) (c .before .before .before .before .before .before .before .before .before .k .given .0 .0) (kind-is (c .before .before .before .before .before .before .before .before .before .before .before .before .before .before .args .d) (bitAt (c .before .before .before .before .before .before .before .before .before .before .before .before .octets .result)) (c .before .before .before .before .before .before .before .before .before .before .before .kind-of .result) (c .before .before .before .before .before .before .before .before .before .k .given .0 .0) (c .before .before .before .before .before .before .before .before .before .before .before .kind-of .ensures) (c .before .before .before .before .before .before .before .before .before .k .given .1)) (c .before .before .before .before .before .verdict-in .result) (c .before .before .tail-at .result) (omega (arith, c .before .before .before .before .before .before .before .body .ensures)) (c .before .before .before .before .before .verdict-in .ensures) (sym (c .before .before .before .before .allowed-in .ensures) ∙ not-false (c .before .before .before .before .allowed-in .result) (c .before .before .before .if2 .left)) (subst (λ (q : ℕ). Tail (captureOf (c .before .before .before .before .before .before .before .before .before .before .before .before .before .before .args .s .now) (c .before .before .before .before .before .before .before .before .before .before .before .before .before .before .args .n) (c .before .before .before .before .before .before .before .before .before .before .before .before .before .before .args .d)) q (c .before .before .tail-at .result)) (ap (λ (b : ℕ). c .before .before .before .before .before .before .before .before .before .before .before .before .before .before .args .p + b) (c .before .before .before .before .before .before .before .body .ensures)) (c .before .before .tail-at .ensures (c .before .before .before .before .before .before .before .before .before .before .before .before .before .before .args .d))) (omega (arith, c .before .least-tail .ensures))
+returns-4 c =
+    let a = c .before .before .before .before .before .before .before .before .before .before .before .before .before .before .args in
+    let the-octets = c .before .before .before .before .before .before .before .before .before .before .before .before .octets in
+    let the-kind-of = c .before .before .before .before .before .before .before .before .before .before .before .kind-of in
+    let the-k = c .before .before .before .before .before .before .before .before .before .k in
+    let the-body = c .before .before .before .before .before .before .before .body in
+    let the-verdict-in = c .before .before .before .before .before .verdict-in in
+    let the-allowed-in = c .before .before .before .before .allowed-in in
+    let the-tail-at = c .before .before .tail-at in
+    seen-due (bitAt (a .s .now)) (a .n) (a .d) (a .x) (a .p) (the-octets .result) (the-octets .ensures) (the-k .given .0 .0) (kind-is (a .d) (bitAt (the-octets .result)) (the-kind-of .result) (the-k .given .0 .0) (the-kind-of .ensures) (the-k .given .1)) (the-verdict-in .result) (the-tail-at .result) (omega (arith, the-body .ensures)) (the-verdict-in .ensures) (sym (the-allowed-in .ensures) ∙ not-false (the-allowed-in .result) (c .before .before .before .if2 .left)) (subst (λ (q : ℕ). Tail (captureOf (a .s .now) (a .n) (a .d)) q (the-tail-at .result)) (ap (λ (b : ℕ). a .p + b) (the-body .ensures)) (the-tail-at .ensures (a .d))) (omega (arith, c .before .least-tail .ensures))
 
 returns-5 : tie.Need-returns-5
-returns-5 c = seen-nothing (captureOf (c .before .before .before .before .before .before .args .s .now) (c .before .before .before .before .before .before .args .n) (c .before .before .before .before .before .before .args .d)) (c .before .before .before .before .before .before .args .x) (c .before .before .before .before .before .before .args .p) (c .no-frame4 .result) (c .no-frame4 .ensures) (none-of-no-kind (bitAt (c .before .before .before .before .before .before .args .s .now)) (c .before .before .before .before .before .before .args .n) (c .before .before .before .before .before .before .args .d) (c .before .before .before .before .before .before .args .x) (c .before .before .before .before .before .before .args .p) (c .before .before .before .before .octets .result) (c .before .before .before .before .octets .ensures) (kind-no (c .before .before .before .before .before .before .args .d) (bitAt (c .before .before .before .before .octets .result)) (c .before .before .before .kind-of .result) (c .before .before .before .kind-of .ensures) (c .before .enum-told .given .1)))
+returns-5 c =
+    let a = c .before .before .before .before .before .before .args in
+    let the-octets = c .before .before .before .before .octets in
+    let the-kind-of = c .before .before .before .kind-of in
+    seen-nothing (captureOf (a .s .now) (a .n) (a .d)) (a .x) (a .p) (c .no-frame4 .result) (c .no-frame4 .ensures) (none-of-no-kind (bitAt (a .s .now)) (a .n) (a .d) (a .x) (a .p) (the-octets .result) (the-octets .ensures) (kind-no (a .d) (bitAt (the-octets .result)) (the-kind-of .result) (the-kind-of .ensures) (c .before .enum-told .given .1)))
 
 pub frame-at-spec : {M : Type 1} → statement M
 frame-at-spec =

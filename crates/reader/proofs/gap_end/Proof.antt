@@ -50,9 +50,10 @@ places-less : tie.Need-places-less Inv-loop μ-loop Inv-places μ-places
 places-less c = search needs
 
 places-again : tie.Need-places-again Inv-loop μ-loop Inv-places μ-places
-places-again c = 
+places-again c =
+    let a = c .before .before .before .before .before .before .before .args in
     let l = c .before .before .before .loop in
-    (omega arith, omega arith, passed-more (captureOf (c .before .before .before .before .before .before .before .args .s .now) (c .before .before .before .before .before .before .before .args .n) (c .before .before .before .before .before .before .before .args .d)) (c .before .before .before .before .before .before .before .args .from) (l .q) (l .inv .4) (none-differs (captureOf (c .before .before .before .before .before .before .before .args .s .now) (c .before .before .before .before .before .before .before .args .n) (c .before .before .before .before .before .before .before .args .d)) (l .q) (l .j) (c .before .bit .result) (omega arith) (c .before .bit .ensures) (c .if1 .taken)))
+    (omega arith, omega arith, passed-more (captureOf (a .s .now) (a .n) (a .d)) (a .from) (l .q) (l .inv .4) (none-differs (captureOf (a .s .now) (a .n) (a .d)) (l .q) (l .j) (c .before .bit .result) (omega arith) (c .before .bit .ensures) (c .if1 .taken)))
 
 add-j : tie.Need-add-j Inv-loop μ-loop Inv-places μ-places
 add-j c = search needs
@@ -67,9 +68,10 @@ starts-at-requires : tie.Need-starts-at-requires Inv-loop μ-loop Inv-places μ-
 starts-at-requires c κs = search needs
 
 returns : tie.Need-returns Inv-loop μ-loop Inv-places μ-places
-returns c = 
+returns c =
+    let a = c .before .before .before .before .before .before .before .args in
     let l = c .before .before .before .loop in
-    gap-found (captureOf (c .before .before .before .before .before .before .before .args .s .now) (c .before .before .before .before .before .before .before .args .n) (c .before .before .before .before .before .before .before .args .d)) (c .before .before .before .before .before .before .before .args .from) (l .q) (l .inv .4) (omega arith) (omega arith) (c .before .starts-at .result) (c .before .starts-at .ensures) (c .if2 .taken)
+    gap-found (captureOf (a .s .now) (a .n) (a .d)) (a .from) (l .q) (l .inv .4) (omega arith) (omega arith) (c .before .starts-at .result) (c .before .starts-at .ensures) (c .if2 .taken)
 
 add-q-2 : tie.Need-add-q-2 Inv-loop μ-loop Inv-places μ-places
 add-q-2 c = search needs
@@ -78,14 +80,16 @@ places-less-2 : tie.Need-places-less-2 Inv-loop μ-loop Inv-places μ-places
 places-less-2 c = search needs
 
 places-again-2 : tie.Need-places-again-2 Inv-loop μ-loop Inv-places μ-places
-places-again-2 c = 
+places-again-2 c =
+    let a = c .before .before .before .before .before .before .before .args in
     let l = c .before .before .before .loop in
-    (omega arith, omega arith, passed-more (captureOf (c .before .before .before .before .before .before .before .args .s .now) (c .before .before .before .before .before .before .before .args .n) (c .before .before .before .before .before .before .before .args .d)) (c .before .before .before .before .before .before .before .args .from) (l .q) (l .inv .4) (not-starting (captureOf (c .before .before .before .before .before .before .before .args .s .now) (c .before .before .before .before .before .before .before .args .n) (c .before .before .before .before .before .before .before .args .d)) (l .q) (c .before .starts-at .result) (c .before .starts-at .ensures) (c .if2 .left)))
+    (omega arith, omega arith, passed-more (captureOf (a .s .now) (a .n) (a .d)) (a .from) (l .q) (l .inv .4) (not-starting (captureOf (a .s .now) (a .n) (a .d)) (l .q) (c .before .starts-at .result) (c .before .starts-at .ensures) (c .if2 .left)))
 
 returns-2 : tie.Need-returns-2 Inv-loop μ-loop Inv-places μ-places
-returns-2 c = 
+returns-2 c =
+    let a = c .before .before .before .args in
     let l = c .before .places in
-    gap-all (captureOf (c .before .before .before .args .s .now) (c .before .before .before .args .n) (c .before .before .before .args .d)) (c .before .before .before .args .from) (l .q) (l .inv .2) (omega arith) (omega arith) (omega arith)
+    gap-all (captureOf (a .s .now) (a .n) (a .d)) (a .from) (l .q) (l .inv .2) (omega arith) (omega arith) (omega arith)
 
 pub gap-end-spec : {M : Type 1} → statement M
 gap-end-spec =

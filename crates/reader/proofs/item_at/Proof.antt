@@ -26,10 +26,16 @@ sub-t11 : tie.Need-sub-t11
 sub-t11 c = search needs
 
 returns : tie.Need-returns
-returns c = item-frame (captureOf (c .before .before .before .before .args .s .now) (c .before .before .before .before .args .n) (c .before .before .before .before .args .d)) (c .before .before .before .before .args .c) (c .before .before .frame-at .result) (c .before .before .frame-at .ensures) (c .enum-told .given .0 .0) (c .enum-told .given .1)
+returns c =
+    let a = c .before .before .before .before .args in
+    let the-frame-at = c .before .before .frame-at in
+    item-frame (captureOf (a .s .now) (a .n) (a .d)) (a .c) (the-frame-at .result) (the-frame-at .ensures) (c .enum-told .given .0 .0) (c .enum-told .given .1)
 
 returns-2 : tie.Need-returns-2
-returns-2 c = item-gap (captureOf (c .before .before .before .before .before .args .s .now) (c .before .before .before .before .before .args .n) (c .before .before .before .before .before .args .d)) (c .before .before .before .before .before .args .c) (c .before .before .before .frame-at .result) (c .before .before .before .frame-at .ensures) (c .before .enum-told2 .given .1) (c .gap-end .result) (omega arith) (c .gap-end .ensures)
+returns-2 c =
+    let a = c .before .before .before .before .before .args in
+    let the-frame-at = c .before .before .before .frame-at in
+    item-gap (captureOf (a .s .now) (a .n) (a .d)) (a .c) (the-frame-at .result) (the-frame-at .ensures) (c .before .enum-told2 .given .1) (c .gap-end .result) (omega arith) (c .gap-end .ensures)
 
 pub item-at-spec : {M : Type 1} → statement M
 item-at-spec =

@@ -16,10 +16,16 @@ enum-told-2 : tie.Need-enum-told-2
 enum-told-2 c = search needs
 
 returns : tie.Need-returns
-returns c = start-seen (captureOf (c .before .before .before .before .args .s .now) (c .before .before .before .before .args .n) (c .before .before .before .before .args .d)) (c .before .before .before .before .args .q) (c .before .before .frame-at .result) (c .enum-told .given .0 .0) (c .before .before .frame-at .ensures) (c .enum-told .given .1)
+returns c =
+    let a = c .before .before .before .before .args in
+    let the-frame-at = c .before .before .frame-at in
+    start-seen (captureOf (a .s .now) (a .n) (a .d)) (a .q) (the-frame-at .result) (c .enum-told .given .0 .0) (the-frame-at .ensures) (c .enum-told .given .1)
 
 returns-2 : tie.Need-returns-2
-returns-2 c = none-seen (captureOf (c .before .before .before .before .args .s .now) (c .before .before .before .before .args .n) (c .before .before .before .before .args .d)) (c .before .before .before .before .args .q) (c .before .before .frame-at .result) (c .before .before .frame-at .ensures) (c .enum-told2 .given .1)
+returns-2 c =
+    let a = c .before .before .before .before .args in
+    let the-frame-at = c .before .before .frame-at in
+    none-seen (captureOf (a .s .now) (a .n) (a .d)) (a .q) (the-frame-at .result) (the-frame-at .ensures) (c .enum-told2 .given .1)
 
 pub starts-at-spec : {M : Type 1} → statement M
 starts-at-spec = tie.close (tie.spec frame-at-requires enum-told enum-told-2 returns returns-2)

@@ -30,7 +30,7 @@ loop-less : tie.Need-loop-less Inv-loop μ-loop
 loop-less c = search needs
 
 loop-again : tie.Need-loop-again Inv-loop μ-loop
-loop-again c = 
+loop-again c =
     let a = c .before .before .before .before .before .args in
     let l = c .before .before .before .loop in
     (omega arith, omega arith, ones-more (a .s .now) (a .n) (a .q) (l .end) (l .inv .2) (c .before .bit .result) (c .before .bit .ensures) (c .if1 .taken))
@@ -39,7 +39,7 @@ sub-result : tie.Need-sub-result Inv-loop μ-loop
 sub-result c = search needs
 
 returns : tie.Need-returns Inv-loop μ-loop
-returns c = 
+returns c =
     let a = c .before .before .before .before .before .args in
     let l = c .before .before .before .loop in
     tail-met (a .s .now) (a .n) (a .q) (l .end) (omega arith) (omega arith) (l .inv .2) (inr (sym (c .before .bit .ensures) ∙ c .if1 .left))
@@ -48,7 +48,7 @@ sub-result-2 : tie.Need-sub-result-2 Inv-loop μ-loop
 sub-result-2 c = search needs
 
 returns-2 : tie.Need-returns-2 Inv-loop μ-loop
-returns-2 c = 
+returns-2 c =
     let a = c .before .before .before .args in
     let l = c .before .loop in
     tail-met (a .s .now) (a .n) (a .q) (l .end) (omega arith) (omega arith) (l .inv .2) (inl (omega arith))

@@ -19,9 +19,10 @@ slice-aggregate-bit c = search needs
 
 bit-requires : tie.Need-bit-requires
 bit-requires c κs =
+    let the-pre = c .before .before .before .pre in
     let a = c .before .before .before .args in
     let l : length (a .t1) ≡ 20 = search needs in
-    omega (arith, c .before .before .before .pre .0 (a .j) (c .before .before .before .pre .1))
+    omega (arith, the-pre .0 (a .j) (the-pre .1))
 
 returns : tie.Need-returns
 returns c = search needs

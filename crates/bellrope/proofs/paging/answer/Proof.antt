@@ -10,13 +10,17 @@ refuse-requires : tie.Need-refuse-requires
 refuse-requires c κs = search needs
 
 returns : tie.Need-returns
-returns c = rw (eq-eqb (c .before .before .before .before .args .page .items) 0 (c .before .before .if1 .taken), lt-ltb (c .before .before .before .before .args .position) (c .before .before .before .before .args .n) (c .before .if2 .taken)) (c .refuse .ensures)
+returns c =
+    let a = c .before .before .before .before .args in
+    rw (eq-eqb (a .page .items) 0 (c .before .before .if1 .taken), lt-ltb (a .position) (a .n) (c .before .if2 .taken)) (c .refuse .ensures)
 
 cast-t11 : tie.Need-cast-t11
 cast-t11 c = search needs
 
 returns-2 : tie.Need-returns-2
-returns-2 c = rw (eq-eqb (c .before .before .before .before .args .page .items) 0 (c .before .before .if1 .taken), le-ltb (c .before .before .before .before .args .position) (c .before .before .before .before .args .n) (c .before .if2 .left))
+returns-2 c =
+    let a = c .before .before .before .before .args in
+    rw (eq-eqb (a .page .items) 0 (c .before .before .if1 .taken), le-ltb (a .position) (a .n) (c .before .if2 .left))
 
 cast-t14 : tie.Need-cast-t14
 cast-t14 c = search needs

@@ -17,16 +17,24 @@ refuse-requires : tie.Need-refuse-requires
 refuse-requires c κs = search needs
 
 returns : tie.Need-returns
-returns c = refused-call (c .before .before .before .before .before .args .capture .now) (c .before .before .before .before .before .args .n) (c .before .before .before .before .before .args .direction) (c .before .before .before .before .before .args .position) (c .before .before .before .before .before .args .context) (c .before .before .before .before .before .args .most) (c .before .before .before .before .before .args .buffer .now) (c .before .before .refusal .result) (c .refuse .result) (c .before .before .refusal .ensures) (c .before .if1 .taken) (c .refuse .ensures)
+returns c =
+    let a = c .before .before .before .before .before .args in
+    let the-refusal = c .before .before .refusal in
+    refused-call (a .capture .now) (a .n) (a .direction) (a .position) (a .context) (a .most) (a .buffer .now) (the-refusal .result) (c .refuse .result) (the-refusal .ensures) (c .before .if1 .taken) (c .refuse .ensures)
 
 cast-t13 : tie.Need-cast-t13
-cast-t13 c = let z : c .before .refusal .result ≡ 0 = omega arith in let m = admitted (length (c .before .before .before .before .args .capture .now)) (c .before .before .before .before .args .n) (c .before .before .before .before .args .direction) (c .before .before .before .before .args .position) (c .before .before .before .before .args .context) (c .before .before .before .before .args .most) (c .before .refusal .result) (c .before .refusal .ensures) z in omega arith
+cast-t13 c =
+    let a = c .before .before .before .before .args in
+    let z : c .before .refusal .result ≡ 0 = omega arith in let m = admitted (length (a .capture .now)) (a .n) (a .direction) (a .position) (a .context) (a .most) (c .before .refusal .result) (c .before .refusal .ensures) z in omega arith
 
 direction-of-requires : tie.Need-direction-of-requires
 direction-of-requires c κs = search needs
 
 fill-requires : tie.Need-fill-requires
-fill-requires c κs = let z : c .before .before .before .refusal .result ≡ 0 = omega arith in let m = admitted (length (c .before .before .before .before .before .before .args .capture .now)) (c .before .before .before .before .before .before .args .n) (c .before .before .before .before .before .before .args .direction) (c .before .before .before .before .before .before .args .position) (c .before .before .before .before .before .before .args .context) (c .before .before .before .before .before .before .args .most) (c .before .before .before .refusal .result) (c .before .before .before .refusal .ensures) z in (m .inside, m .count, m .short)
+fill-requires c κs =
+    let a = c .before .before .before .before .before .before .args in
+    let the-refusal = c .before .before .before .refusal in
+    let z : the-refusal .result ≡ 0 = omega arith in let m = admitted (length (a .capture .now)) (a .n) (a .direction) (a .position) (a .context) (a .most) (the-refusal .result) (the-refusal .ensures) z in (m .inside, m .count, m .short)
 
 answer-requires : tie.Need-answer-requires
 answer-requires c κs = search needs
@@ -35,7 +43,12 @@ same-length : tie.Need-same-length
 same-length c = search needs
 
 returns-2 : tie.Need-returns-2
-returns-2 c = let z : c .before .before .before .before .before .before .before .refusal .result ≡ 0 = omega arith in taken-call (c .before .before .before .before .before .before .before .before .before .before .args .capture .now) (c .before .before .before .before .before .before .before .before .before .before .args .n) (c .before .before .before .before .before .before .before .before .before .before .args .direction) (c .before .before .before .before .before .before .before .before .before .before .args .position) (c .before .before .before .before .before .before .before .before .before .before .args .context) (c .before .before .before .before .before .before .before .before .before .before .args .most) (c .before .before .before .before .before .before .before .before .before .before .args .buffer .now) (c .before .before .before .before .before .direction-of .result) (c .before .before .before .fill .last .1 .1 .1 .1 .1 .0) (c .before .before .before .fill .result .items) (c .before .before .before .fill .result .bytes) (cursorOf (c .before .before .before .fill .result .cursor)) (c .answer .result) (c .before .before .before .before .before .before .before .refusal .result) (c .before .before .before .before .before .before .before .refusal .ensures) z (c .before .before .before .before .before .direction-of .ensures) (c .before .before .before .fill .ensures) (c .answer .ensures)
+returns-2 c =
+    let a = c .before .before .before .before .before .before .before .before .before .before .args in
+    let the-refusal = c .before .before .before .before .before .before .before .refusal in
+    let the-direction-of = c .before .before .before .before .before .direction-of in
+    let the-fill = c .before .before .before .fill in
+    let z : the-refusal .result ≡ 0 = omega arith in taken-call (a .capture .now) (a .n) (a .direction) (a .position) (a .context) (a .most) (a .buffer .now) (the-direction-of .result) (the-fill .last .1 .1 .1 .1 .1 .0) (the-fill .result .items) (the-fill .result .bytes) (cursorOf (the-fill .result .cursor)) (c .answer .result) (the-refusal .result) (the-refusal .ensures) z (the-direction-of .ensures) (the-fill .ensures) (c .answer .ensures)
 
 pub bellrope-page-spec : {M : Type 1} → statement M
 bellrope-page-spec =

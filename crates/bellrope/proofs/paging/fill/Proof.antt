@@ -24,13 +24,17 @@ abbrev μ-loop : tie.MeasureT-loop
 μ-loop s n d most buffer₀ items₀ at₀ cursor₀ buffer items at cursor = most - items
 
 loop-holds : tie.Need-loop-holds Inv-loop μ-loop
-loop-holds c = (fill-start (captureOf (c .before .before .args .s .now) (c .before .before .args .n) (c .before .before .args .d)) (cursorOf (c .before .before .args .c)) (c .before .before .args .most) (c .before .before .args .buffer .now), omega arith)
+loop-holds c =
+    let a = c .before .before .args in
+    (fill-start (captureOf (a .s .now) (a .n) (a .d)) (cursorOf (a .c)) (a .most) (a .buffer .now), omega arith)
 
 same-length : tie.Need-same-length Inv-loop μ-loop
 same-length c = c .before .before .loop .inv .0 .long
 
 returns : tie.Need-returns Inv-loop μ-loop
-returns c = let l = c .before .before .loop in filled-end (captureOf (c .before .before .before .before .before .args .s .now) (c .before .before .before .before .before .args .n) (c .before .before .before .before .before .args .d)) (cursorOf (c .before .before .before .before .before .args .c)) (c .before .before .before .before .before .args .most) (c .before .before .before .before .before .args .buffer .now) (l .buffer) (l .at) (l .items) (cursorOf (l .cursor)) (omega arith) (l .inv .0) (c .if1 .taken)
+returns c =
+    let a = c .before .before .before .before .before .args in
+    let l = c .before .before .loop in filled-end (captureOf (a .s .now) (a .n) (a .d)) (cursorOf (a .c)) (a .most) (a .buffer .now) (l .buffer) (l .at) (l .items) (cursorOf (l .cursor)) (omega arith) (l .inv .0) (c .if1 .taken)
 
 item-at-requires : tie.Need-item-at-requires Inv-loop μ-loop
 item-at-requires c κs = (omega arith, omega arith, omega arith)
@@ -45,7 +49,10 @@ same-length-2 : tie.Need-same-length-2 Inv-loop μ-loop
 same-length-2 c = c .before .before .before .before .before .loop .inv .0 .long
 
 returns-2 : tie.Need-returns-2 Inv-loop μ-loop
-returns-2 c = let l = c .before .before .before .before .before .loop in filled-tight (captureOf (c .before .before .before .before .before .before .before .before .args .s .now) (c .before .before .before .before .before .before .before .before .args .n) (c .before .before .before .before .before .before .before .before .args .d)) (cursorOf (c .before .before .before .before .before .before .before .before .args .c)) (c .before .before .before .before .before .before .before .before .args .most) (c .before .before .before .before .before .before .before .before .args .buffer .now) (l .buffer) (l .at) (l .items) (cursorOf (l .cursor)) (omega arith) (l .inv .0) (itemOf (c .before .before .item-at .result)) (c .before .size .result) (c .before .before .item-at .ensures) (c .before .size .ensures ∙ size-of (c .before .before .item-at .result)) (c .if2 .taken)
+returns-2 c =
+    let a = c .before .before .before .before .before .before .before .before .args in
+    let the-item-at = c .before .before .item-at in
+    let l = c .before .before .before .before .before .loop in filled-tight (captureOf (a .s .now) (a .n) (a .d)) (cursorOf (a .c)) (a .most) (a .buffer .now) (l .buffer) (l .at) (l .items) (cursorOf (l .cursor)) (omega arith) (l .inv .0) (itemOf (the-item-at .result)) (c .before .size .result) (the-item-at .ensures) (c .before .size .ensures ∙ size-of (the-item-at .result)) (c .if2 .taken)
 
 sub-put : tie.Need-sub-put Inv-loop μ-loop
 sub-put c = let s = c .before .before .before .before .before .loop .inv .0 in omega (arith, s .fits, s .long)
@@ -60,10 +67,17 @@ put-requires : tie.Need-put-requires Inv-loop μ-loop
 put-requires c κs = let l = c .before .before .before .before .before .before .loop in omega (arith, length-tail (l .at) (l .buffer), c .before .before .size .ensures ∙ size-of (c .before .before .before .item-at .result), c .before .if2 .left)
 
 over-requires : tie.Need-over-requires Inv-loop μ-loop
-over-requires c κs = item-small (captureOf (c .before .before .before .before .before .before .before .before .before .before .before .before .args .s .now) (c .before .before .before .before .before .before .before .before .before .before .before .before .args .n) (c .before .before .before .before .before .before .before .before .before .before .before .before .args .d)) (cursorOf (c .before .before .before .before .before .before .before .before .before .loop .cursor)) 4294967295 (omega arith) (c .before .before .before .before .before .before .item-at .result) (c .before .before .before .before .before .before .item-at .ensures)
+over-requires c κs =
+    let a = c .before .before .before .before .before .before .before .before .before .before .before .before .args in
+    let the-item-at = c .before .before .before .before .before .before .item-at in
+    item-small (captureOf (a .s .now) (a .n) (a .d)) (cursorOf (c .before .before .before .before .before .before .before .before .before .loop .cursor)) 4294967295 (omega arith) (the-item-at .result) (the-item-at .ensures)
 
 add-at : tie.Need-add-at Inv-loop μ-loop
-add-at c = let s = c .before .before .before .before .before .before .before .before .before .before .loop .inv .0 in omega (arith, s .fits, s .long, c .before .before .before .before .before .before .size .ensures ∙ size-of (c .before .before .before .before .before .before .before .item-at .result), size-le (itemOf (c .before .before .before .before .before .before .before .item-at .result)))
+add-at c =
+    let s = c .before .before .before .before .before .before .before .before .before .before .loop .inv .0 in
+    let x = itemOf (c .before .before .before .before .before .before .before .item-at .result) in
+    let e = c .before .before .before .before .before .before .size .ensures ∙ size-of (c .before .before .before .before .before .before .before .item-at .result) in
+    omega (arith, s .fits, s .long, e, size-le x)
 
 add-items : tie.Need-add-items Inv-loop μ-loop
 add-items c = search needs
@@ -72,20 +86,27 @@ loop-less : tie.Need-loop-less Inv-loop μ-loop
 loop-less c = search needs
 
 loop-again : tie.Need-loop-again Inv-loop μ-loop
-loop-again c = 
+loop-again c =
+    let a = c .before .before .before .before .before .before .before .before .before .before .before .before .before .args in
+    let the-item-at = c .before .before .before .before .before .before .before .item-at in
+    let the-size = c .before .before .before .before .before .before .size in
+    let the-put = c .before .before .before .put in
     let l = c .before .before .before .before .before .before .before .before .before .before .loop in
-    let x = itemOf (c .before .before .before .before .before .before .before .item-at .result) in
-    let e : c .before .before .before .before .before .before .size .result ≡ sizeOf x = c .before .before .before .before .before .before .size .ensures ∙ size-of (c .before .before .before .before .before .before .before .item-at .result) in
-    let same = same-len-mid (l .at) (length (l .buffer) - l .at) (l .buffer) (c .before .before .before .put .last .0) (c .before .before .before .put .kept .0) in
-    let turned = fill-turn (captureOf (c .before .before .before .before .before .before .before .before .before .before .before .before .before .args .s .now) (c .before .before .before .before .before .before .before .before .before .before .before .before .before .args .n) (c .before .before .before .before .before .before .before .before .before .before .before .before .before .args .d)) (cursorOf (c .before .before .before .before .before .before .before .before .before .before .before .before .before .args .c)) (c .before .before .before .before .before .before .before .before .before .before .before .before .before .args .most) (c .before .before .before .before .before .before .before .before .before .before .before .before .before .args .buffer .now) (l .buffer) (l .at) (l .items) (cursorOf (l .cursor)) (cursorOf (c .over .result)) x (c .before .before .before .put .last .0) (l .inv .0) (omega arith) (c .before .before .before .before .before .before .before .item-at .ensures) (c .over .ensures) (omega (arith, c .before .before .before .before .before .if2 .left)) (c .before .before .before .put .ensures) same in
-    (subst (λ (k : ℕ). Filling (captureOf (c .before .before .before .before .before .before .before .before .before .before .before .before .before .args .s .now) (c .before .before .before .before .before .before .before .before .before .before .before .before .before .args .n) (c .before .before .before .before .before .before .before .before .before .before .before .before .before .args .d)) (cursorOf (c .before .before .before .before .before .before .before .before .before .before .before .before .before .args .c)) (c .before .before .before .before .before .before .before .before .before .before .before .before .before .args .most) (c .before .before .before .before .before .before .before .before .before .before .before .before .before .args .buffer .now) (putMid (l .at) (length (l .buffer) - l .at) (l .buffer) (c .before .before .before .put .last .0)) (l .at + k) (l .items + 1) (cursorOf (c .over .result))) (sym e) turned,
-    subst (λ (y : Cursor ℕ). y .position ≤ c .before .before .before .before .before .before .before .before .before .before .before .before .before .args .n) (sym (c .over .ensures)) (within rules (captureOf (c .before .before .before .before .before .before .before .before .before .before .before .before .before .args .s .now) (c .before .before .before .before .before .before .before .before .before .before .before .before .before .args .n) (c .before .before .before .before .before .before .before .before .before .before .before .before .before .args .d)) (sound (captureOf (c .before .before .before .before .before .before .before .before .before .before .before .before .before .args .s .now) (c .before .before .before .before .before .before .before .before .before .before .before .before .before .args .n) (c .before .before .before .before .before .before .before .before .before .before .before .before .before .args .d))) (cursorOf (l .cursor)) x (c .before .before .before .before .before .before .before .item-at .ensures)))
+    let x = itemOf (the-item-at .result) in
+    let e : the-size .result ≡ sizeOf x = the-size .ensures ∙ size-of (the-item-at .result) in
+    let same = same-len-mid (l .at) (length (l .buffer) - l .at) (l .buffer) (the-put .last .0) (the-put .kept .0) in
+    let turned = fill-turn (captureOf (a .s .now) (a .n) (a .d)) (cursorOf (a .c)) (a .most) (a .buffer .now) (l .buffer) (l .at) (l .items) (cursorOf (l .cursor)) (cursorOf (c .over .result)) x (the-put .last .0) (l .inv .0) (omega arith) (the-item-at .ensures) (c .over .ensures) (omega (arith, c .before .before .before .before .before .if2 .left)) (the-put .ensures) same in (
+      subst (λ (k : ℕ). Filling (captureOf (a .s .now) (a .n) (a .d)) (cursorOf (a .c)) (a .most) (a .buffer .now) (putMid (l .at) (length (l .buffer) - l .at) (l .buffer) (the-put .last .0)) (l .at + k) (l .items + 1) (cursorOf (c .over .result))) (sym e) turned,
+      subst (λ (y : Cursor ℕ). y .position ≤ a .n) (sym (c .over .ensures)) (within rules (captureOf (a .s .now) (a .n) (a .d)) (sound (captureOf (a .s .now) (a .n) (a .d))) (cursorOf (l .cursor)) x (the-item-at .ensures)),
+    )
 
 same-length-3 : tie.Need-same-length-3 Inv-loop μ-loop
 same-length-3 c = c .before .loop .inv .0 .long
 
 returns-3 : tie.Need-returns-3 Inv-loop μ-loop
-returns-3 c = let l = c .before .loop in filled-full (captureOf (c .before .before .before .before .args .s .now) (c .before .before .before .before .args .n) (c .before .before .before .before .args .d)) (cursorOf (c .before .before .before .before .args .c)) (c .before .before .before .before .args .most) (c .before .before .before .before .args .buffer .now) (l .buffer) (l .at) (l .items) (cursorOf (l .cursor)) (omega arith) (l .inv .0) (omega arith)
+returns-3 c =
+    let a = c .before .before .before .before .args in
+    let l = c .before .loop in filled-full (captureOf (a .s .now) (a .n) (a .d)) (cursorOf (a .c)) (a .most) (a .buffer .now) (l .buffer) (l .at) (l .items) (cursorOf (l .cursor)) (omega arith) (l .inv .0) (omega arith)
 
 pub fill-spec : {M : Type 1} → statement M
 fill-spec =

@@ -10,25 +10,37 @@ returns : tie.Need-returns
 returns c = rw (lt-ltb (1) (c .before .args .direction) (c .if1 .taken))
 
 returns-2 : tie.Need-returns-2
-returns-2 c = rw (le-ltb (1) (c .before .before .args .direction) (c .before .if1 .left), eq-eqb (c .before .before .args .most) 0 (c .if2 .taken))
+returns-2 c =
+    let a = c .before .before .args in
+    rw (le-ltb (1) (a .direction) (c .before .if1 .left), eq-eqb (a .most) 0 (c .if2 .taken))
 
 returns-3 : tie.Need-returns-3
-returns-3 c = rw (le-ltb (1) (c .before .before .before .args .direction) (c .before .before .if1 .left), ne-eqb (c .before .before .before .args .most) 0 (c .before .if2 .left), lt-ltb (65536) (c .before .before .before .args .bytes) (c .if3 .taken))
+returns-3 c =
+    let a = c .before .before .before .args in
+    rw (le-ltb (1) (a .direction) (c .before .before .if1 .left), ne-eqb (a .most) 0 (c .before .if2 .left), lt-ltb (65536) (a .bytes) (c .if3 .taken))
 
 mul-bits : tie.Need-mul-bits
 mul-bits c = search needs
 
 returns-4 : tie.Need-returns-4
-returns-4 c = rw (le-ltb (1) (c .before .before .before .before .args .direction) (c .before .before .before .if1 .left), ne-eqb (c .before .before .before .before .args .most) 0 (c .before .before .if2 .left), le-ltb (65536) (c .before .before .before .before .args .bytes) (c .before .if3 .left), lt-ltb (8 * c .before .before .before .before .args .bytes) (c .before .before .before .before .args .n) (c .if4 .taken))
+returns-4 c =
+    let a = c .before .before .before .before .args in
+    rw (le-ltb (1) (a .direction) (c .before .before .before .if1 .left), ne-eqb (a .most) 0 (c .before .before .if2 .left), le-ltb (65536) (a .bytes) (c .before .if3 .left), lt-ltb (8 * a .bytes) (a .n) (c .if4 .taken))
 
 returns-5 : tie.Need-returns-5
-returns-5 c = rw (le-ltb (1) (c .before .before .before .before .before .args .direction) (c .before .before .before .before .if1 .left), ne-eqb (c .before .before .before .before .before .args .most) 0 (c .before .before .before .if2 .left), le-ltb (65536) (c .before .before .before .before .before .args .bytes) (c .before .before .if3 .left), le-ltb (8 * c .before .before .before .before .before .args .bytes) (c .before .before .before .before .before .args .n) (c .before .if4 .left), lt-ltb (c .before .before .before .before .before .args .n) (c .before .before .before .before .before .args .position) (c .if5 .taken))
+returns-5 c =
+    let a = c .before .before .before .before .before .args in
+    rw (le-ltb (1) (a .direction) (c .before .before .before .before .if1 .left), ne-eqb (a .most) 0 (c .before .before .before .if2 .left), le-ltb (65536) (a .bytes) (c .before .before .if3 .left), le-ltb (8 * a .bytes) (a .n) (c .before .if4 .left), lt-ltb (a .n) (a .position) (c .if5 .taken))
 
 returns-6 : tie.Need-returns-6
-returns-6 c = rw (le-ltb (1) (c .before .before .before .before .before .before .args .direction) (c .before .before .before .before .before .if1 .left), ne-eqb (c .before .before .before .before .before .before .args .most) 0 (c .before .before .before .before .if2 .left), le-ltb (65536) (c .before .before .before .before .before .before .args .bytes) (c .before .before .before .if3 .left), le-ltb (8 * c .before .before .before .before .before .before .args .bytes) (c .before .before .before .before .before .before .args .n) (c .before .before .if4 .left), le-ltb (c .before .before .before .before .before .before .args .n) (c .before .before .before .before .before .before .args .position) (c .before .if5 .left), lt-ltb (5) (c .before .before .before .before .before .before .args .context) (c .if6 .taken))
+returns-6 c =
+    let a = c .before .before .before .before .before .before .args in
+    rw (le-ltb (1) (a .direction) (c .before .before .before .before .before .if1 .left), ne-eqb (a .most) 0 (c .before .before .before .before .if2 .left), le-ltb (65536) (a .bytes) (c .before .before .before .if3 .left), le-ltb (8 * a .bytes) (a .n) (c .before .before .if4 .left), le-ltb (a .n) (a .position) (c .before .if5 .left), lt-ltb (5) (a .context) (c .if6 .taken))
 
 returns-7 : tie.Need-returns-7
-returns-7 c = rw (le-ltb (1) (c .before .before .before .before .before .before .args .direction) (c .before .before .before .before .before .if1 .left), ne-eqb (c .before .before .before .before .before .before .args .most) 0 (c .before .before .before .before .if2 .left), le-ltb (65536) (c .before .before .before .before .before .before .args .bytes) (c .before .before .before .if3 .left), le-ltb (8 * c .before .before .before .before .before .before .args .bytes) (c .before .before .before .before .before .before .args .n) (c .before .before .if4 .left), le-ltb (c .before .before .before .before .before .before .args .n) (c .before .before .before .before .before .before .args .position) (c .before .if5 .left), le-ltb (5) (c .before .before .before .before .before .before .args .context) (c .if6 .left))
+returns-7 c =
+    let a = c .before .before .before .before .before .before .args in
+    rw (le-ltb (1) (a .direction) (c .before .before .before .before .before .if1 .left), ne-eqb (a .most) 0 (c .before .before .before .before .if2 .left), le-ltb (65536) (a .bytes) (c .before .before .before .if3 .left), le-ltb (8 * a .bytes) (a .n) (c .before .before .if4 .left), le-ltb (a .n) (a .position) (c .before .if5 .left), le-ltb (5) (a .context) (c .if6 .left))
 
 pub refusal-spec : {M : Type 1} → statement M
 refusal-spec =

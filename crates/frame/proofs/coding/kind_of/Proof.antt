@@ -45,19 +45,38 @@ enum-told-5 : tie.Need-enum-told-5
 enum-told-5 c = search needs
 
 returns : tie.Need-returns
-returns c = kind-in (c .before .before .before .before .before .before .before .args .d) (bitAt (c .before .before .before .before .before .before .before .args .o)) Hr (c .hr-kind .result) (held-in (bitAt (c .before .before .before .before .before .before .before .args .o)) (c .before .before .before .before .before .before .pattern-of .result) (c .before .before .before .before .t .given .0 .0) Hr (c .before .before .before .before .before .before .pattern-of .ensures) (c .before .before .before .before .t .given .1) (c .before .enum-told .given .1)) (c .hr-kind .ensures)
+returns c =
+    let a = c .before .before .before .before .before .before .before .args in
+    let the-pattern-of = c .before .before .before .before .before .before .pattern-of in
+    let the-t = c .before .before .before .before .t in
+    kind-in (a .d) (bitAt (a .o)) Hr (c .hr-kind .result) (held-in (bitAt (a .o)) (the-pattern-of .result) (the-t .given .0 .0) Hr (the-pattern-of .ensures) (the-t .given .1) (c .before .enum-told .given .1)) (c .hr-kind .ensures)
 
 returns-2 : tie.Need-returns-2
-returns-2 c = kind-in (c .before .before .before .before .before .before .before .args .d) (bitAt (c .before .before .before .before .before .before .before .args .o)) Low (c .low-kind .result) (held-in (bitAt (c .before .before .before .before .before .before .before .args .o)) (c .before .before .before .before .before .before .pattern-of .result) (c .before .before .before .before .t .given .0 .0) Low (c .before .before .before .before .before .before .pattern-of .ensures) (c .before .before .before .before .t .given .1) (c .before .enum-told2 .given .1)) (c .low-kind .ensures)
+returns-2 c =
+    let a = c .before .before .before .before .before .before .before .args in
+    let the-pattern-of = c .before .before .before .before .before .before .pattern-of in
+    let the-t = c .before .before .before .before .t in
+    kind-in (a .d) (bitAt (a .o)) Low (c .low-kind .result) (held-in (bitAt (a .o)) (the-pattern-of .result) (the-t .given .0 .0) Low (the-pattern-of .ensures) (the-t .given .1) (c .before .enum-told2 .given .1)) (c .low-kind .ensures)
 
 returns-3 : tie.Need-returns-3
-returns-3 c = kind-in (c .before .before .before .before .before .before .args .d) (bitAt (c .before .before .before .before .before .before .args .o)) P670 (Is Amr670) (held-in (bitAt (c .before .before .before .before .before .before .args .o)) (c .before .before .before .before .before .pattern-of .result) (c .before .before .before .t .given .0 .0) P670 (c .before .before .before .before .before .pattern-of .ensures) (c .before .before .before .t .given .1) (c .enum-told3 .given .1)) (refl, refl)
+returns-3 c =
+    let a = c .before .before .before .before .before .before .args in
+    let the-pattern-of = c .before .before .before .before .before .pattern-of in
+    let the-t = c .before .before .before .t in
+    kind-in (a .d) (bitAt (a .o)) P670 (Is Amr670) (held-in (bitAt (a .o)) (the-pattern-of .result) (the-t .given .0 .0) P670 (the-pattern-of .ensures) (the-t .given .1) (c .enum-told3 .given .1)) (refl, refl)
 
 returns-4 : tie.Need-returns-4
-returns-4 c = kind-in (c .before .before .before .before .before .before .args .d) (bitAt (c .before .before .before .before .before .before .args .o)) P740 (Is Amr740) (held-in (bitAt (c .before .before .before .before .before .before .args .o)) (c .before .before .before .before .before .pattern-of .result) (c .before .before .before .t .given .0 .0) P740 (c .before .before .before .before .before .pattern-of .ensures) (c .before .before .before .t .given .1) (c .enum-told4 .given .1)) (refl, refl)
+returns-4 c =
+    let a = c .before .before .before .before .before .before .args in
+    let the-pattern-of = c .before .before .before .before .before .pattern-of in
+    let the-t = c .before .before .before .t in
+    kind-in (a .d) (bitAt (a .o)) P740 (Is Amr740) (held-in (bitAt (a .o)) (the-pattern-of .result) (the-t .given .0 .0) P740 (the-pattern-of .ensures) (the-t .given .1) (c .enum-told4 .given .1)) (refl, refl)
 
 returns-5 : tie.Need-returns-5
-returns-5 c = kind-nowhere (c .before .before .before .args .d) (bitAt (c .before .before .before .args .o)) (held-nowhere (bitAt (c .before .before .before .args .o)) (c .before .before .pattern-of .result) (c .before .before .pattern-of .ensures) (c .enum-told5 .given .1))
+returns-5 c =
+    let a = c .before .before .before .args in
+    let the-pattern-of = c .before .before .pattern-of in
+    kind-nowhere (a .d) (bitAt (a .o)) (held-nowhere (bitAt (a .o)) (the-pattern-of .result) (the-pattern-of .ensures) (c .enum-told5 .given .1))
 
 pub kind-of-spec : {M : Type 1} → statement M
 kind-of-spec =

@@ -20,13 +20,21 @@ packed-requires : tie.Need-packed-requires
 packed-requires c κs = (listed-below 160 (cPlaces Low) tt, omega arith)
 
 returns : tie.Need-returns
-returns c = (refl, low-lower (c .before .before .before .args .d) (bitAt (c .before .before .before .args .o)) (c .before .packed .result) (c .before .packed .ensures) (c .if1 .taken))
+returns c =
+    let a = c .before .before .before .args in
+    (refl, low-lower (a .d) (bitAt (a .o)) (c .before .packed .result) (c .before .packed .ensures) (c .if1 .taken))
 
 returns-2 : tie.Need-returns-2
-returns-2 c = (refl, low-no-speech (c .before .before .before .before .args .d) (bitAt (c .before .before .before .before .args .o)) (c .before .before .packed .result) (c .before .before .packed .ensures) (c .before .if1 .left) (c .if2 .taken))
+returns-2 c =
+    let a = c .before .before .before .before .args in
+    let the-packed = c .before .before .packed in
+    (refl, low-no-speech (a .d) (bitAt (a .o)) (the-packed .result) (the-packed .ensures) (c .before .if1 .left) (c .if2 .taken))
 
 returns-3 : tie.Need-returns-3
-returns-3 c = low-nothing (c .before .before .before .before .args .d) (bitAt (c .before .before .before .before .args .o)) (c .before .before .packed .result) (c .before .before .packed .ensures) (c .before .if1 .left) (c .if2 .left)
+returns-3 c =
+    let a = c .before .before .before .before .args in
+    let the-packed = c .before .before .packed in
+    low-nothing (a .d) (bitAt (a .o)) (the-packed .result) (the-packed .ensures) (c .before .if1 .left) (c .if2 .left)
 
 pub low-kind-spec : {M : Type 1} → statement M
 low-kind-spec =

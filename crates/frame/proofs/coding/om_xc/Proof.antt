@@ -26,10 +26,16 @@ odd-ones-requires : tie.Need-odd-ones-requires
 odd-ones-requires c κs = search needs
 
 returns : tie.Need-returns
-returns c = one-elem (c .before .before .packed .result / 2) 31 ∙ xc-odd (bitAt (c .before .before .before .before .args .o)) (c .before .before .packed .result) (c .before .before .packed .ensures) (31 ∷ []) (sym (odd-packed (c .before .before .packed .result) (c .before .odd-ones .result) (bitsAt (bitAt (c .before .before .before .before .args .o)) xcPlaces) (c .before .odd-ones .ensures) (c .before .before .packed .ensures)) ∙ c .if1 .taken)
+returns c =
+    let a = c .before .before .before .before .args in
+    let the-packed = c .before .before .packed in
+    one-elem (the-packed .result / 2) 31 ∙ xc-odd (bitAt (a .o)) (the-packed .result) (the-packed .ensures) (31 ∷ []) (sym (odd-packed (the-packed .result) (c .before .odd-ones .result) (bitsAt (bitAt (a .o)) xcPlaces) (c .before .odd-ones .ensures) (the-packed .ensures)) ∙ c .if1 .taken)
 
 returns-2 : tie.Need-returns-2
-returns-2 c = xc-even (bitAt (c .before .before .before .before .args .o)) (c .before .before .packed .result) (c .before .before .packed .ensures) (31 ∷ []) (sym (odd-packed (c .before .before .packed .result) (c .before .odd-ones .result) (bitsAt (bitAt (c .before .before .before .before .args .o)) xcPlaces) (c .before .odd-ones .ensures) (c .before .before .packed .ensures)) ∙ c .if1 .left)
+returns-2 c =
+    let a = c .before .before .before .before .args in
+    let the-packed = c .before .before .packed in
+    xc-even (bitAt (a .o)) (the-packed .result) (the-packed .ensures) (31 ∷ []) (sym (odd-packed (the-packed .result) (c .before .odd-ones .result) (bitsAt (bitAt (a .o)) xcPlaces) (c .before .odd-ones .ensures) (the-packed .ensures)) ∙ c .if1 .left)
 
 pub om-xc-spec : {M : Type 1} → statement M
 om-xc-spec =

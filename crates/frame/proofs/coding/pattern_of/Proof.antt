@@ -29,8 +29,9 @@ returns c = sym (c .before .fixed-bits .ensures) ∙ c .if2 .taken
 
 returns-2 : tie.Need-returns-2
 returns-2 c =
-    nowhere (bitAt (c .before .before .before .before .before .before .before .args .t1)) P740
-    (only-740 (bitAt (c .before .before .before .before .before .before .before .args .t1)) (sym (c .before .before .before .before .before .bit .ensures) ∙ c .before .before .before .before .if1 .taken))
+    let a = c .before .before .before .before .before .before .before .args in
+    nowhere (bitAt (a .t1)) P740
+    (only-740 (bitAt (a .t1)) (sym (c .before .before .before .before .before .bit .ensures) ∙ c .before .before .before .before .if1 .taken))
     (sym (c .before .fixed-bits .ensures) ∙ c .if2 .left)
 
 slice-aggregate-bit-2 : tie.Need-slice-aggregate-bit-2
@@ -59,8 +60,9 @@ returns-3 c = sym (c .before .fixed-bits2 .ensures) ∙ c .if5 .taken
 
 returns-4 : tie.Need-returns-4
 returns-4 c =
-    nowhere (bitAt (c .before .before .before .before .before .before .before .before .before .before .before .before .before .args .t1)) P670
-    (only-670 (bitAt (c .before .before .before .before .before .before .before .before .before .before .before .before .before .args .t1)) (sym (c .before .before .before .before .before .before .before .before .before .before .before .bit .ensures) ∙ c .before .before .before .before .before .before .before .before .before .before .if1 .left) (sym (c .before .before .before .before .before .before .before .before .bit2 .ensures) ∙ c .before .before .before .before .before .before .before .if3 .taken) (sym (c .before .before .before .before .before .bit3 .ensures) ∙ c .before .before .before .before .if4 .taken))
+    let a = c .before .before .before .before .before .before .before .before .before .before .before .before .before .args in
+    nowhere (bitAt (a .t1)) P670
+    (only-670 (bitAt (a .t1)) (sym (c .before .before .before .before .before .before .before .before .before .before .before .bit .ensures) ∙ c .before .before .before .before .before .before .before .before .before .before .if1 .left) (sym (c .before .before .before .before .before .before .before .before .bit2 .ensures) ∙ c .before .before .before .before .before .before .before .if3 .taken) (sym (c .before .before .before .before .before .bit3 .ensures) ∙ c .before .before .before .before .if4 .taken))
     (sym (c .before .fixed-bits2 .ensures) ∙ c .if5 .left)
 
 slice-aggregate-fixed-bits-5 : tie.Need-slice-aggregate-fixed-bits-5
@@ -77,8 +79,9 @@ returns-5 c = sym (c .before .fixed-bits3 .ensures) ∙ c .if6 .taken
 
 returns-6 : tie.Need-returns-6
 returns-6 c =
-    nowhere (bitAt (c .before .before .before .before .before .before .before .before .before .before .before .before .before .args .t1)) Low
-    (only-low (bitAt (c .before .before .before .before .before .before .before .before .before .before .before .before .before .args .t1)) (sym (c .before .before .before .before .before .before .before .before .before .before .before .bit .ensures) ∙ c .before .before .before .before .before .before .before .before .before .before .if1 .left) (sym (c .before .before .before .before .before .before .before .before .bit2 .ensures) ∙ c .before .before .before .before .before .before .before .if3 .taken) (sym (c .before .before .before .before .before .bit3 .ensures) ∙ c .before .before .before .before .if4 .left))
+    let a = c .before .before .before .before .before .before .before .before .before .before .before .before .before .args in
+    nowhere (bitAt (a .t1)) Low
+    (only-low (bitAt (a .t1)) (sym (c .before .before .before .before .before .before .before .before .before .before .before .bit .ensures) ∙ c .before .before .before .before .before .before .before .before .before .before .if1 .left) (sym (c .before .before .before .before .before .before .before .before .bit2 .ensures) ∙ c .before .before .before .before .before .before .before .if3 .taken) (sym (c .before .before .before .before .before .bit3 .ensures) ∙ c .before .before .before .before .if4 .left))
     (sym (c .before .fixed-bits3 .ensures) ∙ c .if6 .left)
 
 slice-aggregate-fixed-bits-7 : tie.Need-slice-aggregate-fixed-bits-7
@@ -95,8 +98,9 @@ returns-7 c = sym (c .before .fixed-bits4 .ensures) ∙ c .if7 .taken
 
 returns-8 : tie.Need-returns-8
 returns-8 c =
-    nowhere (bitAt (c .before .before .before .before .before .before .before .before .before .before .args .t1)) Hr
-    (only-hr (bitAt (c .before .before .before .before .before .before .before .before .before .before .args .t1)) (sym (c .before .before .before .before .before .before .before .before .bit .ensures) ∙ c .before .before .before .before .before .before .before .if1 .left) (sym (c .before .before .before .before .before .bit2 .ensures) ∙ c .before .before .before .before .if3 .left))
+    let a = c .before .before .before .before .before .before .before .before .before .before .args in
+    nowhere (bitAt (a .t1)) Hr
+    (only-hr (bitAt (a .t1)) (sym (c .before .before .before .before .before .before .before .before .bit .ensures) ∙ c .before .before .before .before .before .before .before .if1 .left) (sym (c .before .before .before .before .before .bit2 .ensures) ∙ c .before .before .before .before .if3 .left))
     (sym (c .before .fixed-bits4 .ensures) ∙ c .if7 .left)
 
 pub pattern-of-spec : {M : Type 1} → statement M

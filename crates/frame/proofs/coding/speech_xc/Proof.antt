@@ -24,13 +24,22 @@ odd-ones-requires : tie.Need-odd-ones-requires
 odd-ones-requires c κs = search needs
 
 speech-number-requires : tie.Need-speech-number-requires
-speech-number-requires c κs = xc-lt (bitAt (c .before .before .before .before .args .o)) (c .before .before .packed .result) (c .before .before .packed .ensures)
+speech-number-requires c κs =
+    let the-packed = c .before .before .packed in
+    xc-lt (bitAt (c .before .before .before .before .args .o)) (the-packed .result) (the-packed .ensures)
 
 returns : tie.Need-returns
-returns c = c .speech-number .ensures ∙ xc-odd (bitAt (c .before .before .before .before .before .args .o)) (c .before .before .before .packed .result) (c .before .before .before .packed .ensures) (speechXc (c .before .before .before .before .before .args .d)) (sym (odd-packed (c .before .before .before .packed .result) (c .before .before .odd-ones .result) (bitsAt (bitAt (c .before .before .before .before .before .args .o)) xcPlaces) (c .before .before .odd-ones .ensures) (c .before .before .before .packed .ensures)) ∙ c .before .if1 .taken)
+returns c =
+    let a = c .before .before .before .before .before .args in
+    let the-packed = c .before .before .before .packed in
+    let the-odd-ones = c .before .before .odd-ones in
+    c .speech-number .ensures ∙ xc-odd (bitAt (a .o)) (the-packed .result) (the-packed .ensures) (speechXc (a .d)) (sym (odd-packed (the-packed .result) (the-odd-ones .result) (bitsAt (bitAt (a .o)) xcPlaces) (the-odd-ones .ensures) (the-packed .ensures)) ∙ c .before .if1 .taken)
 
 returns-2 : tie.Need-returns-2
-returns-2 c = xc-even (bitAt (c .before .before .before .before .args .o)) (c .before .before .packed .result) (c .before .before .packed .ensures) (speechXc (c .before .before .before .before .args .d)) (sym (odd-packed (c .before .before .packed .result) (c .before .odd-ones .result) (bitsAt (bitAt (c .before .before .before .before .args .o)) xcPlaces) (c .before .odd-ones .ensures) (c .before .before .packed .ensures)) ∙ c .if1 .left)
+returns-2 c =
+    let a = c .before .before .before .before .args in
+    let the-packed = c .before .before .packed in
+    xc-even (bitAt (a .o)) (the-packed .result) (the-packed .ensures) (speechXc (a .d)) (sym (odd-packed (the-packed .result) (c .before .odd-ones .result) (bitsAt (bitAt (a .o)) xcPlaces) (c .before .odd-ones .ensures) (the-packed .ensures)) ∙ c .if1 .left)
 
 pub speech-xc-spec : {M : Type 1} → statement M
 speech-xc-spec =

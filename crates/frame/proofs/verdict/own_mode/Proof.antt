@@ -22,13 +22,19 @@ returns : tie.Need-returns
 returns c = own-named (bitAt (c .before .before .before .args .o)) (c .before .packed .result) (c .before .packed .ensures) 0 (c .if1 .taken)
 
 returns-2 : tie.Need-returns-2
-returns-2 c = own-named (bitAt (c .before .before .before .before .args .o)) (c .before .before .packed .result) (c .before .before .packed .ensures) 1 (c .if2 .taken)
+returns-2 c =
+    let the-packed = c .before .before .packed in
+    own-named (bitAt (c .before .before .before .before .args .o)) (the-packed .result) (the-packed .ensures) 1 (c .if2 .taken)
 
 returns-3 : tie.Need-returns-3
-returns-3 c = own-named (bitAt (c .before .before .before .before .before .args .o)) (c .before .before .before .packed .result) (c .before .before .before .packed .ensures) 2 (c .if3 .taken)
+returns-3 c =
+    let the-packed = c .before .before .before .packed in
+    own-named (bitAt (c .before .before .before .before .before .args .o)) (the-packed .result) (the-packed .ensures) 2 (c .if3 .taken)
 
 returns-4 : tie.Need-returns-4
-returns-4 c = own-none (bitAt (c .before .before .before .before .before .args .o)) (c .before .before .before .packed .result) (c .before .before .before .packed .ensures) (c .before .before .if1 .left) (c .before .if2 .left) (c .if3 .left)
+returns-4 c =
+    let the-packed = c .before .before .before .packed in
+    own-none (bitAt (c .before .before .before .before .before .args .o)) (the-packed .result) (the-packed .ensures) (c .before .before .if1 .left) (c .before .if2 .left) (c .if3 .left)
 
 pub own-mode-spec : {M : Type 1} → statement M
 own-mode-spec =

@@ -76,7 +76,10 @@ add-result-3 c = omega (arith, c .before .before .before .before .before .before
 returns : tie.Need-returns
 unfolding dPlaces
 returns c =
-    let sum = four-wrongs (bitAt (c .before .before .before .before .before .before .before .before .before .before .before .before .args .o)) (getD checks475 0 []) (getD checks475 1 []) (getD checks475 2 []) (getD checks475 3 []) (c .before .before .before .before .before .before .before .before .before .before .crc-right .result) (c .before .before .before .before .before .before .before .crc-right2 .result) (c .before .before .before .before .crc-right3 .result) (c .before .crc-right4 .result) (c .before .before .before .before .before .before .before .before .before .before .crc-right .ensures) (c .before .before .before .before .before .before .before .crc-right2 .ensures) (c .before .before .before .before .crc-right3 .ensures) (c .before .crc-right4 .ensures) in
+    let the-crc-right = c .before .before .before .before .before .before .before .before .before .before .crc-right in
+    let the-crc-right2 = c .before .before .before .before .before .before .before .crc-right2 in
+    let the-crc-right3 = c .before .before .before .before .crc-right3 in
+    let sum = four-wrongs (bitAt (c .before .before .before .before .before .before .before .before .before .before .before .before .args .o)) (getD checks475 0 []) (getD checks475 1 []) (getD checks475 2 []) (getD checks475 3 []) (the-crc-right .result) (the-crc-right2 .result) (the-crc-right3 .result) (c .before .crc-right4 .result) (the-crc-right .ensures) (the-crc-right2 .ensures) (the-crc-right3 .ensures) (c .before .crc-right4 .ensures) in
     omega (arith, sum, c .before .before .before .before .before .before .before .before .before .wrong .ensures, c .before .before .before .before .before .before .wrong2 .ensures, c .before .before .before .wrong3 .ensures, c .wrong4 .ensures)
 
 pub wrongs-475-spec : {M : Type 1} → statement M

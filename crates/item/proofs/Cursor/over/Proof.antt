@@ -32,16 +32,19 @@ add-self-3 c = search needs
 
 returns : tie.Need-returns
 returns c =
-    let i = c .before .before .before .before .before .before .args .i in
-    let k = c .before .before .before .found .given .0 .0 in
+    let a = c .before .before .before .before .before .before .args in
+    let the-found = c .before .before .before .found in
+    let i = a .i in
+    let k = the-found .given .0 .0 in
     let r : Cursor = record { position = i .start + c .before .body .result + i .length; context = c .after .result } in
-    over-frame (c .before .before .before .before .before .before .args .self) r i k (c .before .before .before .found .given .1) (ap (λ b. i .start + b + i .length) (c .before .body .ensures)) (c .after .ensures)
+    over-frame (a .self) r i k (the-found .given .1) (ap (λ b. i .start + b + i .length) (c .before .body .ensures)) (c .after .ensures)
 
 returns-2 : tie.Need-returns-2
 returns-2 c =
-    let i = c .before .before .before .args .i in
+    let a = c .before .before .before .args in
+    let i = a .i in
     let r : Cursor = record { position = i .start + i .length; context = 0 } in
-    over-gap (c .before .before .before .args .self) r i (c .enum-told .given .1) refl refl
+    over-gap (a .self) r i (c .enum-told .given .1) refl refl
 
 pub over-spec : {M : Type 1} → statement M
 over-spec =
