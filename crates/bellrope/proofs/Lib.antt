@@ -1,3 +1,4 @@
 pub mod PageLaws
 pub mod FillLaws
 pub mod CallLaws
+pub mod HarvestLaws

@@ -1,2 +1,3 @@
 pub mod Paging
 pub mod Filled
+pub mod Harvest

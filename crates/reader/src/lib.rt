@@ -108,7 +108,7 @@ fn gap_end(s: &[u8], n: usize, d: Direction, from: usize) -> usize
         if starts_at(s, n, d, q) {
             return q;
         }
-        q += 1;
+        q += 1; // no frame starts a run here
     }
     n
 }
