@@ -6,3 +6,4 @@ pub mod ExamplesHold
 pub mod ChannelLaws
 pub mod DLaws
 pub mod CutLaws
+pub mod UnseenLaws

@@ -1,0 +1,92 @@
+-- Bits from n on are never looked at (document 01, "What the library covers"): captures that agree before n have the same reading.
+-- Assumes nothing.
+use mathlib.Core.Path.{_≡_, refl, sym, _∙_, ap, subst, fun-ext}
+use mathlib.Core.Logic.{_⊎_, inl, inr, by-cases}
+use mathlib.Core.Bool.{Bool, true, false, _&&_}
+use mathlib.Core.List.{List, [], _∷_, _++_}
+use Prim.Native.Nat.{ℕ, _+_, _≤_, _<_}
+use native.Mathlib.Omega.{arith}
+use native.Mathlib.Decide.{decLt}
+use borrow.Author.Tests.{ltb-true}
+use lib.Dec.{ltb}
+use Rattle.reading.specs.Reading.{Cursor, Item, gap, frame, Gap, Obeys, over, Stretch, Reading, Starts, Leading}
+use Rattle.channel.specs.declared.Direction.{Direction}
+use Rattle.channel.specs.Kinds.{bodyOf}
+use Rattle.channel.specs.Coding.{Word, wordAt}
+use Rattle.channel.specs.Frames.{Capture, Frame, Tail, Due, rules}
+
+-- two captures of n bits agree on each of them
+abbrev pub Agree : ℕ → (ℕ → Bool) → (ℕ → Bool) → Type 0
+Agree n f g = (i : ℕ) → i < n → f i ≡ g i
+
+pub agree-back : (n : ℕ) (f g : ℕ → Bool) → Agree n f g → Agree n g f
+agree-back n f g h i l = sym (h i l)
+
+module _ (n : ℕ) (d : Direction) where
+  abbrev of : (ℕ → Bool) → Capture
+  of f = record { bits = f; n = n; direction = d }
+
+  module _ (f g : ℕ → Bool) (same : Agree n f g) where
+    word-same : (p b : ℕ) → p + b ≤ n → wordAt f p b ≡ wordAt g p b
+    word-same p b h = fun-ext (λ i. go i (ltb i b) refl)
+      where
+        go : (i : ℕ) (t : Bool) → ltb i b ≡ t → t && f (p + i) ≡ t && g (p + i)
+        go i false e = refl
+        go i true e = let l : i < b = ltb-true i b e in same (p + i) (omega arith)
+
+    tail-same : (q t : ℕ) → Tail (of f) q t → Tail (of g) q t
+    tail-same q t h =
+        record {
+          within = h .within;
+          ones = λ i a b. sym (same i (omega (arith, h .within))) ∙ h .ones i a b;
+          stops = by-cases (decLt (q + t) n) (λ (l : q + t < n). go l (h .stops)) (λ (l : ¬ (q + t < n)). inl (omega (arith, h .within)));
+        }
+      where
+        go : q + t < n → (q + t ≡ n) ⊎ (f (q + t) ≡ false) → (q + t ≡ n) ⊎ (g (q + t) ≡ false)
+        go l (inl e) = inl e
+        go l (inr e) = inr (sym (same (q + t) l) ∙ e)
+
+    -- the same frames are due
+    pub due-same : (x p : ℕ) (h : Frame) → Due (of f) x p h → Due (of g) x p h
+    due-same x p h e =
+        record {
+          stands =
+              record {
+                at = e .stands .at;
+                before = e .stands .before;
+                bits = e .stands .bits ∙ word-same p (bodyOf (h .kind)) (e .stands .before);
+                holds = e .stands .holds;
+                tail = tail-same (p + bodyOf (h .kind)) (h .tail) (e .stands .tail);
+                least = e .stands .least;
+              };
+          allows = e .allows;
+          judged = e .judged;
+        }
+
+  module _ (f g : ℕ → Bool) (same : Agree n f g) where
+    obeys-same : (c : Cursor ℕ) (x : Item Frame) → Obeys rules (of f) c x → Obeys rules (of g) c x
+    obeys-same c (frame h) o = due-same f g same (c .context) (c .position) h o
+    obeys-same c (gap s l) o =
+        record {
+          from = o .from;
+          filled = o .filled;
+          within = o .within;
+          stops = stop (o .stops);
+          none-starts = λ p a b h e. o .none-starts p a b h (due-same g f (agree-back n f g same) 0 p h e);
+          none-follows = λ h e. o .none-follows h (due-same g f (agree-back n f g same) (c .context) s h e);
+        }
+      where
+        stop : (s + l ≡ n) ⊎ ((h : Frame) × Starts rules (of f) (s + l) h) → (s + l ≡ n) ⊎ ((h : Frame) × Starts rules (of g) (s + l) h)
+        stop (inl e) = inl e
+        stop (inr e) = inr (e .0, due-same f g same 0 (s + l) (e .0) (e .1))
+
+    stretch-same : (c : Cursor ℕ) (xs : List (Item Frame)) → Stretch rules (of f) c xs → Stretch rules (of g) c xs
+    stretch-same c [] s = tt
+    stretch-same c (x ∷ xs) s = (obeys-same c x (s .0), stretch-same (over rules c x) xs (s .1))
+
+    -- a reading of the one is a reading of the other
+    pub reading-same : (c : Cursor ℕ) (xs : List (Item Frame)) → Reading rules (of f) c xs → Reading rules (of g) c xs
+    reading-same c xs r = (stretch-same c xs (r .0), r .1)
+
+    pub leading-same : (c : Cursor ℕ) (xs : List (Item Frame)) → Leading rules (of f) c xs → Leading rules (of g) c xs
+    leading-same c xs (ys, r) = (ys, reading-same c (xs ++ ys) r)
