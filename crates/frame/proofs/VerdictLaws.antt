@@ -1,6 +1,6 @@
 -- How the code's modes, verdicts and wrong CRCs come to the definitions.
 -- Assumes nothing.
-use mathlib.Core.Path.{_≡_, refl, sym, _∙_, ap}
+use mathlib.Core.Path.{_≡_, refl, sym, _∙_, ap, subst}
 use mathlib.Core.Bool.{Bool, true, false, not}
 use mathlib.Core.List.{List, [], _∷_}
 use Prim.Native.Nat.{ℕ, zero, suc, _+_, _*_, _^_, _<_, _≤_}
@@ -26,7 +26,8 @@ module _ (g : Word) (c : ℕ) (read : c ≡ c1to3 g Low) where
   pub own-none : (c ≡ 0 → ⊥) → (c ≡ 1 → ⊥) → (c ≡ 2 → ⊥) → 0 ≡ ownMode g
   own-none x y z =
       let h : 3 ≤ c = omega arith in
-      sym (ap (λ (n : ℕ). getD (1 ∷ 2 ∷ 3 ∷ []) n 0) (sym read) ∙ List·getD-eq-default {A = ℕ} (1 ∷ 2 ∷ 3 ∷ []) 0 {n = c} h)
+      let e : getD (1 ∷ 2 ∷ 3 ∷ []) c 0 ≡ 0 = List·getD-eq-default {A = ℕ} (1 ∷ 2 ∷ 3 ∷ []) 0 {n = c} h in
+      subst (λ (n : ℕ). 0 ≡ getD (1 ∷ 2 ∷ 3 ∷ []) n 0) read (sym e)
 
 -- the contexts that hold no mode
 pub context-none : (x : ℕ) → (x ≡ 3 → ⊥) → (x ≡ 4 → ⊥) → (x ≡ 5 → ⊥) → 0 ≡ contextMode x

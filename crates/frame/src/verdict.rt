@@ -1,10 +1,12 @@
 // The verdict byte of a frame in a context, and the context that the frame leaves.
 ghost use mathlib.Core.Path.{_≡_};
 ghost use mathlib.Core.Bool.{not};
+ghost use mathlib.Core.List.{[], _∷_};
 ghost use Prim.Native.Nat.{_+_, _*_, _≤_};
 ghost use lib.Dec.{eqb};
 ghost use Rattle.bits.specs.Bit.{bitAt, toN};
 ghost use Rattle.channel.specs.Checks.{checksLower};
+ghost use Rattle.word.specs.Below.{Below};
 ghost use Rattle.channel.specs.Verdict.{ownMode, contextMode, wrongs, verdictOf, afterOf};
 ghost use Rattle.frame.specs.Modes.{ModesIn};
 use crate::places;
@@ -12,7 +14,7 @@ use channel::Kind;
 
 // 1 where a CRC is wrong.
 fn wrong(right: bool) -> u8
-    ensures { λ r. ⌜ r ≡ toN (not right) ⌝ }
+    ensures { λ r. ⌜ (r ≡ toN (not right)) × (r ≤ 1) ⌝ }
 {
     if right { 0 } else { 1 }
 }
@@ -74,26 +76,16 @@ fn modes_in(o: [u8; 20], x: u8) -> Modes
     }
 }
 
-// The wrong CRCs of a kind 6 in mode 4,75, as bits.
-fn wrongs_475(o: [u8; 20]) -> u8
-    ensures { λ r. ⌜ r ≡ wrongs (bitAt o) (checksLower 1) ⌝ }
+// The wrong ones of four CRCs, as bits: CRC1 is bit 0.
+fn four_wrongs(o: [u8; 20], crc1: &[u8], crc2: &[u8], crc3: &[u8], crc4: &[u8]) -> u8
+    requires { ⌜ Below 160 (now crc1) × Below 160 (now crc2) × Below 160 (now crc3) × Below 160 (now crc4) ⌝ }
+    ensures { λ r. ⌜ r ≡ wrongs (bitAt o) (now (crc1 .entry) ∷ now (crc2 .entry) ∷ now (crc3 .entry) ∷ now (crc4 .entry) ∷ []) ⌝ }
 {
-    let crc1 = wrong(word::crc_right(o, &places::LOWER_475_CRC1));
-    let crc2 = wrong(word::crc_right(o, &places::LOWER_475_CRC2));
-    let crc3 = wrong(word::crc_right(o, &places::LOWER_475_CRC3));
-    let crc4 = wrong(word::crc_right(o, &places::LOWER_475_CRC4));
-    crc1 + 2 * crc2 + 4 * crc3 + 8 * crc4
-}
-
-// The wrong CRCs of a kind 6 in mode 5,15, as bits.
-fn wrongs_515(o: [u8; 20]) -> u8
-    ensures { λ r. ⌜ r ≡ wrongs (bitAt o) (checksLower 2) ⌝ }
-{
-    let crc1 = wrong(word::crc_right(o, &places::LOWER_515_CRC1));
-    let crc2 = wrong(word::crc_right(o, &places::LOWER_515_CRC2));
-    let crc3 = wrong(word::crc_right(o, &places::LOWER_515_CRC3));
-    let crc4 = wrong(word::crc_right(o, &places::LOWER_515_CRC4));
-    crc1 + 2 * crc2 + 4 * crc3 + 8 * crc4
+    let w1 = wrong(word::crc_right(o, crc1));
+    let w2 = wrong(word::crc_right(o, crc2));
+    let w3 = wrong(word::crc_right(o, crc3));
+    let w4 = wrong(word::crc_right(o, crc4));
+    w1 + 2 * w2 + 4 * w3 + 8 * w4
 }
 
 // The verdict of a kind 6 in a mode, or without one.
@@ -102,10 +94,24 @@ fn lower_verdict(o: [u8; 20], mode: u8) -> u8
     ensures { λ r. ⌜ r ≡ 128 * toN (eqb mode 0) + 16 * mode + wrongs (bitAt o) (checksLower mode) ⌝ }
 {
     if mode == 1 {
-        return 16 + wrongs_475(o);
+        let wrongs = four_wrongs(
+            o,
+            &places::LOWER_475_CRC1,
+            &places::LOWER_475_CRC2,
+            &places::LOWER_475_CRC3,
+            &places::LOWER_475_CRC4,
+        );
+        return 16 + wrongs;
     }
     if mode == 2 {
-        return 32 + wrongs_515(o);
+        let wrongs = four_wrongs(
+            o,
+            &places::LOWER_515_CRC1,
+            &places::LOWER_515_CRC2,
+            &places::LOWER_515_CRC3,
+            &places::LOWER_515_CRC4,
+        );
+        return 32 + wrongs;
     }
     if mode == 3 {
         return 48 + wrong(word::crc_right(o, &places::LOWER_590_CRC1));

@@ -1,37 +1,65 @@
--- `frame::verdict::lower_verdict` meets its contract.
+-- `frame::verdict::lower_verdict` meets its contract: each CRC of a mode by the list of the definition.
 -- Assumes nothing.
 use mathlib.Core.Path.{_≡_, refl, sym, _∙_, ap}
-use Prim.Native.Nat.{_+_, _*_, _%_}
 use native.Mathlib.Omega.{arith}
-use Rattle.bits.specs.Bit.{bitAt, toN}
-use mathlib.Core.Bool.{not}
+use Rattle.bits.specs.Bit.{bitAt}
 use mathlib.Core.List.{[]}
 use lib.ListN.{getD}
 use Rattle.channel.specs.Places.{dPlaces}
-use Rattle.channel.specs.Checks.{checks590}
+use Rattle.channel.specs.Checks.{checks475, checks515, checks590}
 use Rattle.frame.proofs.CodingLaws.{listed-below}
-use Rattle.frame.proofs.VerdictLaws.{wrong-le, lower-lt, one-wrong}
+use Rattle.frame.proofs.VerdictLaws.{lower-lt, one-wrong}
 use borrow.Author.Needs.{needs}
 use Rattle.frame.proofs.verdict.lower_verdict.Statement.{statement}
 use Rattle.frame.proofs.verdict.lower_verdict.Tie as tie
 
-wrongs-475-requires : tie.Need-wrongs-475-requires
-wrongs-475-requires c κs = search needs
+slice-aggregate-four-wrongs : tie.Need-slice-aggregate-four-wrongs
+slice-aggregate-four-wrongs c = search needs
+
+slice-aggregate-four-wrongs-2 : tie.Need-slice-aggregate-four-wrongs-2
+slice-aggregate-four-wrongs-2 c = search needs
+
+slice-aggregate-four-wrongs-3 : tie.Need-slice-aggregate-four-wrongs-3
+slice-aggregate-four-wrongs-3 c = search needs
+
+slice-aggregate-four-wrongs-4 : tie.Need-slice-aggregate-four-wrongs-4
+slice-aggregate-four-wrongs-4 c = search needs
+
+four-wrongs-requires : tie.Need-four-wrongs-requires
+unfolding dPlaces
+four-wrongs-requires c κs = (listed-below 160 (getD checks475 0 []) tt, listed-below 160 (getD checks475 1 []) tt, listed-below 160 (getD checks475 2 []) tt, listed-below 160 (getD checks475 3 []) tt)
 
 add-result : tie.Need-add-result
-add-result c = omega (arith, c .wrongs-475 .ensures, lower-lt (bitAt (c .before .before .args .o)) 1 refl)
+unfolding dPlaces
+add-result c = omega (arith, c .four-wrongs .ensures, lower-lt (bitAt (c .before .before .before .before .before .before .args .o)) 1 refl)
 
 returns : tie.Need-returns
-returns c = rw (c .before .if1 .taken) (omega (arith, c .wrongs-475 .ensures))
+unfolding dPlaces
+returns c = rw (c .before .before .before .before .before .if1 .taken) (omega (arith, c .four-wrongs .ensures))
 
-wrongs-515-requires : tie.Need-wrongs-515-requires
-wrongs-515-requires c κs = search needs
+slice-aggregate-four-wrongs-5 : tie.Need-slice-aggregate-four-wrongs-5
+slice-aggregate-four-wrongs-5 c = search needs
+
+slice-aggregate-four-wrongs-6 : tie.Need-slice-aggregate-four-wrongs-6
+slice-aggregate-four-wrongs-6 c = search needs
+
+slice-aggregate-four-wrongs-7 : tie.Need-slice-aggregate-four-wrongs-7
+slice-aggregate-four-wrongs-7 c = search needs
+
+slice-aggregate-four-wrongs-8 : tie.Need-slice-aggregate-four-wrongs-8
+slice-aggregate-four-wrongs-8 c = search needs
+
+four-wrongs-requires-2 : tie.Need-four-wrongs-requires-2
+unfolding dPlaces
+four-wrongs-requires-2 c κs = (listed-below 160 (getD checks515 0 []) tt, listed-below 160 (getD checks515 1 []) tt, listed-below 160 (getD checks515 2 []) tt, listed-below 160 (getD checks515 3 []) tt)
 
 add-result-2 : tie.Need-add-result-2
-add-result-2 c = omega (arith, c .wrongs-515 .ensures, lower-lt (bitAt (c .before .before .before .args .o)) 2 refl)
+unfolding dPlaces
+add-result-2 c = omega (arith, c .four-wrongs2 .ensures, lower-lt (bitAt (c .before .before .before .before .before .before .before .args .o)) 2 refl)
 
 returns-2 : tie.Need-returns-2
-returns-2 c = rw (c .before .if2 .taken) (omega (arith, c .wrongs-515 .ensures))
+unfolding dPlaces
+returns-2 c = rw (c .before .before .before .before .before .if2 .taken) (omega (arith, c .four-wrongs2 .ensures))
 
 slice-aggregate-crc-right : tie.Need-slice-aggregate-crc-right
 slice-aggregate-crc-right c = search needs
@@ -44,11 +72,11 @@ wrong-requires : tie.Need-wrong-requires
 wrong-requires c κs = search needs
 
 add-result-3 : tie.Need-add-result-3
-add-result-3 c = omega (arith, c .wrong .ensures, wrong-le (not (c .before .crc-right .result)))
+add-result-3 c = search needs
 
 returns-3 : tie.Need-returns-3
 unfolding dPlaces
-returns-3 c = rw (c .before .before .before .if3 .taken) (omega (arith, c .wrong .ensures, one-wrong (bitAt (c .before .before .before .before .before .before .args .o)) (getD checks590 0 []) (c .before .crc-right .result) (c .before .crc-right .ensures)))
+returns-3 c = rw (c .before .before .before .if3 .taken) (omega (arith, c .wrong .ensures .0, one-wrong (bitAt (c .before .before .before .before .before .before .args .o)) (getD checks590 0 []) (c .before .crc-right .result) (c .before .crc-right .ensures)))
 
 returns-4 : tie.Need-returns-4
 returns-4 c = let z : c .before .before .before .args .mode ≡ 0 = omega arith in rw z
@@ -57,10 +85,18 @@ pub lower-verdict-spec : {M : Type 1} → statement M
 lower-verdict-spec =
     tie.close
     (tie.spec
-    wrongs-475-requires
+    slice-aggregate-four-wrongs
+    slice-aggregate-four-wrongs-2
+    slice-aggregate-four-wrongs-3
+    slice-aggregate-four-wrongs-4
+    four-wrongs-requires
     add-result
     returns
-    wrongs-515-requires
+    slice-aggregate-four-wrongs-5
+    slice-aggregate-four-wrongs-6
+    slice-aggregate-four-wrongs-7
+    slice-aggregate-four-wrongs-8
+    four-wrongs-requires-2
     add-result-2
     returns-2
     slice-aggregate-crc-right

@@ -103,7 +103,7 @@ wrong-requires-3 c κs = search needs
 -- src/verdict.rt:117:1
 returns : tie.Need-returns
 unfolding dPlaces checks
-returns c = rw (c .before .before .before .enum-told .given .1) (c .wrong .ensures ∙ one-verdict (c .before .before .before .before .before .args .x) (bitAt (c .before .before .before .before .before .args .o)) Speech (getD (checks 0 Speech) 0 []) (c .before .crc-right .result) refl refl refl (c .before .crc-right .ensures))
+returns c = rw (c .before .before .before .enum-told .given .1) (c .wrong .ensures .0 ∙ one-verdict (c .before .before .before .before .before .args .x) (bitAt (c .before .before .before .before .before .args .o)) Speech (getD (checks 0 Speech) 0 []) (c .before .crc-right .result) refl refl refl (c .before .crc-right .ensures))
 
 -- src/verdict.rt:117:1
 returns-2 : tie.Need-returns-2
@@ -132,12 +132,12 @@ returns-6 c = rw (c .before .before .enum-told6 .given .1) (lower-verdict (c .be
 -- src/verdict.rt:117:1
 returns-7 : tie.Need-returns-7
 unfolding dPlaces checks
-returns-7 c = rw (c .before .before .before .enum-told7 .given .1) (c .wrong2 .ensures ∙ one-verdict (c .before .before .before .before .before .args .x) (bitAt (c .before .before .before .before .before .args .o)) Amr670 (getD (checks 0 Amr670) 0 []) (c .before .crc-right2 .result) refl refl refl (c .before .crc-right2 .ensures))
+returns-7 c = rw (c .before .before .before .enum-told7 .given .1) (c .wrong2 .ensures .0 ∙ one-verdict (c .before .before .before .before .before .args .x) (bitAt (c .before .before .before .before .before .args .o)) Amr670 (getD (checks 0 Amr670) 0 []) (c .before .crc-right2 .result) refl refl refl (c .before .crc-right2 .ensures))
 
 -- src/verdict.rt:117:1
 returns-8 : tie.Need-returns-8
 unfolding dPlaces checks
-returns-8 c = rw (c .before .before .before .enum-told8 .given .1) (c .wrong3 .ensures ∙ one-verdict (c .before .before .before .before .before .args .x) (bitAt (c .before .before .before .before .before .args .o)) Amr740 (getD (checks 0 Amr740) 0 []) (c .before .crc-right3 .result) refl refl refl (c .before .crc-right3 .ensures))
+returns-8 c = rw (c .before .before .before .enum-told8 .given .1) (c .wrong3 .ensures .0 ∙ one-verdict (c .before .before .before .before .before .args .x) (bitAt (c .before .before .before .before .before .args .o)) Amr740 (getD (checks 0 Amr740) 0 []) (c .before .crc-right3 .result) refl refl refl (c .before .crc-right3 .ensures))
 
 pub verdict-in-spec : {M : Type 1} → statement M
 verdict-in-spec =
