@@ -26,8 +26,8 @@ module _ (g : Word) (c : ℕ) (read : c ≡ c1to3 g Low) where
   pub own-none : (c ≡ 0 → ⊥) → (c ≡ 1 → ⊥) → (c ≡ 2 → ⊥) → 0 ≡ ownMode g
   own-none x y z =
       let h : 3 ≤ c = omega arith in
-      let e : getD (1 ∷ 2 ∷ 3 ∷ []) c 0 ≡ 0 = List·getD-eq-default {A = ℕ} (1 ∷ 2 ∷ 3 ∷ []) 0 {n = c} h in
-      subst (λ (n : ℕ). 0 ≡ getD (1 ∷ 2 ∷ 3 ∷ []) n 0) read (sym e)
+      let e : _≡_ {A = ℕ} (getD (1 ∷ 2 ∷ 3 ∷ []) c 0) 0 = List·getD-eq-default {A = ℕ} (1 ∷ 2 ∷ 3 ∷ []) 0 {n = c} h in
+      subst (λ (n : ℕ). _≡_ {A = ℕ} 0 (getD (1 ∷ 2 ∷ 3 ∷ []) n 0)) read (sym e)
 
 -- the contexts that hold no mode
 pub context-none : (x : ℕ) → (x ≡ 3 → ⊥) → (x ≡ 4 → ⊥) → (x ≡ 5 → ⊥) → 0 ≡ contextMode x
