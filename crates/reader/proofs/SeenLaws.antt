@@ -1,12 +1,12 @@
 -- A frame seen in the twenty octets from p on is a frame that is due at p, and where none is seen none is due.
 -- Assumes nothing.
 use mathlib.Core.Path.{_≡_, refl, sym, _∙_, ap, subst, fun-ext}
-use mathlib.Core.Bool.{Bool, true, false, _&&_, cond}
+use mathlib.Core.Bool.{Bool, true, false, not, _&&_, cond}
 use mathlib.Core.List.{List}
 use Prim.Native.Nat.{ℕ, _+_, _≤_, _<_}
 use native.Mathlib.Omega.{arith}
 use native.Mathlib.Nat.{zero-add}
-use borrow.Author.Tests.{eqb-true, ltb-true, lt-ltb}
+use borrow.Author.Tests.{eqb-true, ltb-true, lt-ltb, not-true, not-false}
 use lib.Dec.{eqb, ltb}
 use Rattle.bits.specs.Bit.{bitAt, twenty, bitsFrom}
 use Rattle.bits.proofs.BitLaws.{twenty-bit}
@@ -82,13 +82,13 @@ module _ (f : ℕ → Bool) (n : ℕ) (d : Direction) (x p : ℕ) (o : List ℕ)
     none-past l h e = let q = ap bodyOf (same-kind h e) in omega (arith, e .stands .before)
 
     -- rule 2 does not allow it
-    pub none-refused : (v : ℕ) → v ≡ verdictOf x g k → cond (eqb x 0) (startsBy k v) (follows x k) ≡ false → (h : Frame) → Due w x p h → ⊥
-    none-refused v j r h e =
+    pub none-refused : (v : ℕ) (r : Bool) → v ≡ verdictOf x g k → r ≡ cond (eqb x 0) (startsBy k v) (follows x k) → not r ≡ true → (h : Frame) → Due w x p h → ⊥
+    none-refused v r j t z h e =
         let q = same-kind h e in
         let b : h .body ≡ wordAt g 0 (bodyOf (h .kind)) = e .stands .bits ∙ sym (word-held (h .kind) (e .stands .before)) in
         let a : allowed x (wordAt g 0 (bodyOf (h .kind))) (h .kind) ≡ true = subst (λ (u : Word). allowed x u (h .kind) ≡ true) b (e .allows) in
         let a′ : allowed x (wordAt g 0 (bodyOf k)) k ≡ true = subst (λ (i : Kind). allowed x (wordAt g 0 (bodyOf i)) i ≡ true) q a in
-        never (sym a′ ∙ sym (allowed-by x g k v j) ∙ r)
+        never (sym a′ ∙ sym (allowed-by x g k v j) ∙ sym t ∙ not-true r z)
 
     -- the tail is too short
     pub none-short : (t : ℕ) → Tail w (p + bodyOf k) t → t < leastTail d k → (h : Frame) → Due w x p h → ⊥
@@ -99,9 +99,9 @@ module _ (f : ℕ → Bool) (n : ℕ) (d : Direction) (x p : ℕ) (o : List ℕ)
         omega (arith, tail-one w (p + bodyOf k) t (h .tail) whole t′)
 
     -- and where nothing is amiss it is due
-    pub seen-due : (v t : ℕ) → p + bodyOf k ≤ n → v ≡ verdictOf x g k → cond (eqb x 0) (startsBy k v) (follows x k) ≡ true → Tail w (p + bodyOf k) t → leastTail d k ≤ t
-        → Due w x p (frameOf k o p t v)
-    seen-due v t l j a whole m =
+    pub seen-due : (v t : ℕ) (r : Bool) → p + bodyOf k ≤ n → v ≡ verdictOf x g k → r ≡ cond (eqb x 0) (startsBy k v) (follows x k) → not r ≡ false → Tail w (p + bodyOf k) t
+        → leastTail d k ≤ t → Due w x p (frameOf k o p t v)
+    seen-due v t r l j a z whole m =
         record {
           stands =
               record {
@@ -112,7 +112,7 @@ module _ (f : ℕ → Bool) (n : ℕ) (d : Direction) (x p : ℕ) (o : List ℕ)
                 tail = whole;
                 least = m;
               };
-          allows = sym (allowed-by x g k v j) ∙ a;
+          allows = sym (allowed-by x g k v j) ∙ sym a ∙ not-false r z;
           judged = j ∙ sym (verdict-cut x g k);
         }
 

@@ -3,7 +3,6 @@
 use mathlib.Core.Path.{_≡_, refl, sym, _∙_, ap, subst}
 use Prim.Native.Nat.{ℕ, _+_}
 use native.Mathlib.Omega.{arith}
-use borrow.Author.Tests.{not-true, not-false}
 use Rattle.bits.specs.Bit.{bitAt}
 use Rattle.channel.specs.Frames.{captureOf, Tail}
 use Rattle.item.proofs.ItemLaws.{body-le}
@@ -36,7 +35,10 @@ returns c =
     let the-octets = c .before .before .before .before .before .before .before .octets in
     let the-kind-of = c .before .before .before .before .before .before .kind-of in
     let the-k = c .before .before .before .before .k in
-    seen-nothing (captureOf (a .s .now) (a .n) (a .d)) (a .x) (a .p) (c .no-frame .result) (c .no-frame .ensures) (none-past (bitAt (a .s .now)) (a .n) (a .d) (a .x) (a .p) (the-octets .result) (the-octets .ensures) (the-k .given .0 .0) (kind-is (a .d) (bitAt (the-octets .result)) (the-kind-of .result) (the-k .given .0 .0) (the-kind-of .ensures) (the-k .given .1)) (omega (arith, c .before .before .body .ensures)))
+    seen-nothing (captureOf (a .s .now) (a .n) (a .d)) (a .x) (a .p) (c .no-frame .result) (c .no-frame .ensures)
+    (none-past (bitAt (a .s .now)) (a .n) (a .d) (a .x) (a .p) (the-octets .result) (the-octets .ensures)
+    (the-k .given .0 .0) (kind-is (a .d) (bitAt (the-octets .result)) (the-kind-of .result) (the-k .given .0 .0) (the-kind-of .ensures) (the-k .given .1))
+    (omega (arith, c .before .before .body .ensures)))
 
 verdict-in-requires : tie.Need-verdict-in-requires
 verdict-in-requires c κs = search needs
@@ -55,7 +57,10 @@ returns-2 c =
     let the-k = c .before .before .before .before .before .before .before .k in
     let the-verdict-in = c .before .before .before .verdict-in in
     let the-allowed-in = c .before .before .allowed-in in
-    seen-nothing (captureOf (a .s .now) (a .n) (a .d)) (a .x) (a .p) (c .no-frame2 .result) (c .no-frame2 .ensures) (none-refused (bitAt (a .s .now)) (a .n) (a .d) (a .x) (a .p) (the-octets .result) (the-octets .ensures) (the-k .given .0 .0) (kind-is (a .d) (bitAt (the-octets .result)) (the-kind-of .result) (the-k .given .0 .0) (the-kind-of .ensures) (the-k .given .1)) (the-verdict-in .result) (the-verdict-in .ensures) (sym (the-allowed-in .ensures) ∙ not-true (the-allowed-in .result) (c .before .if2 .taken)))
+    seen-nothing (captureOf (a .s .now) (a .n) (a .d)) (a .x) (a .p) (c .no-frame2 .result) (c .no-frame2 .ensures)
+    (none-refused (bitAt (a .s .now)) (a .n) (a .d) (a .x) (a .p) (the-octets .result) (the-octets .ensures)
+    (the-k .given .0 .0) (kind-is (a .d) (bitAt (the-octets .result)) (the-kind-of .result) (the-k .given .0 .0) (the-kind-of .ensures) (the-k .given .1))
+    (the-verdict-in .result) (the-allowed-in .result) (the-verdict-in .ensures) (the-allowed-in .ensures) (c .before .if2 .taken))
 
 tail-at-requires : tie.Need-tail-at-requires
 tail-at-requires c κs = search needs
@@ -73,7 +78,10 @@ returns-3 c =
     let the-kind-of = c .before .before .before .before .before .before .before .before .before .before .before .before .kind-of in
     let the-k = c .before .before .before .before .before .before .before .before .before .before .k in
     let the-tail-at = c .before .before .before .tail-at in
-    seen-nothing (captureOf (a .s .now) (a .n) (a .d)) (a .x) (a .p) (c .no-frame3 .result) (c .no-frame3 .ensures) (none-short (bitAt (a .s .now)) (a .n) (a .d) (a .x) (a .p) (the-octets .result) (the-octets .ensures) (the-k .given .0 .0) (kind-is (a .d) (bitAt (the-octets .result)) (the-kind-of .result) (the-k .given .0 .0) (the-kind-of .ensures) (the-k .given .1)) (the-tail-at .result) (subst (λ (q : ℕ). Tail (captureOf (a .s .now) (a .n) (a .d)) q (the-tail-at .result)) (ap (λ (b : ℕ). a .p + b) (c .before .before .before .before .before .before .before .before .body .ensures)) (the-tail-at .ensures (a .d))) (omega (arith, c .before .before .least-tail .ensures)))
+    seen-nothing (captureOf (a .s .now) (a .n) (a .d)) (a .x) (a .p) (c .no-frame3 .result) (c .no-frame3 .ensures)
+    (none-short (bitAt (a .s .now)) (a .n) (a .d) (a .x) (a .p) (the-octets .result) (the-octets .ensures)
+    (the-k .given .0 .0) (kind-is (a .d) (bitAt (the-octets .result)) (the-kind-of .result) (the-k .given .0 .0) (the-kind-of .ensures) (the-k .given .1))
+    (the-tail-at .result) (subst (λ (q : ℕ). Tail (captureOf (a .s .now) (a .n) (a .d)) q (the-tail-at .result)) (ap (λ (b : ℕ). a .p + b) (c .before .before .before .before .before .before .before .before .body .ensures)) (the-tail-at .ensures (a .d))) (omega (arith, c .before .before .least-tail .ensures)))
 
 enum-told : tie.Need-enum-told
 enum-told c = search needs
@@ -91,7 +99,9 @@ returns-4 c =
     let the-verdict-in = c .before .before .before .before .before .verdict-in in
     let the-allowed-in = c .before .before .before .before .allowed-in in
     let the-tail-at = c .before .before .tail-at in
-    seen-due (bitAt (a .s .now)) (a .n) (a .d) (a .x) (a .p) (the-octets .result) (the-octets .ensures) (the-k .given .0 .0) (kind-is (a .d) (bitAt (the-octets .result)) (the-kind-of .result) (the-k .given .0 .0) (the-kind-of .ensures) (the-k .given .1)) (the-verdict-in .result) (the-tail-at .result) (omega (arith, the-body .ensures)) (the-verdict-in .ensures) (sym (the-allowed-in .ensures) ∙ not-false (the-allowed-in .result) (c .before .before .before .if2 .left)) (subst (λ (q : ℕ). Tail (captureOf (a .s .now) (a .n) (a .d)) q (the-tail-at .result)) (ap (λ (b : ℕ). a .p + b) (the-body .ensures)) (the-tail-at .ensures (a .d))) (omega (arith, c .before .least-tail .ensures))
+    seen-due (bitAt (a .s .now)) (a .n) (a .d) (a .x) (a .p) (the-octets .result) (the-octets .ensures)
+    (the-k .given .0 .0) (kind-is (a .d) (bitAt (the-octets .result)) (the-kind-of .result) (the-k .given .0 .0) (the-kind-of .ensures) (the-k .given .1))
+    (the-verdict-in .result) (the-tail-at .result) (the-allowed-in .result) (omega (arith, the-body .ensures)) (the-verdict-in .ensures) (the-allowed-in .ensures) (c .before .before .before .if2 .left) (subst (λ (q : ℕ). Tail (captureOf (a .s .now) (a .n) (a .d)) q (the-tail-at .result)) (ap (λ (b : ℕ). a .p + b) (the-body .ensures)) (the-tail-at .ensures (a .d))) (omega (arith, c .before .least-tail .ensures))
 
 returns-5 : tie.Need-returns-5
 returns-5 c =
