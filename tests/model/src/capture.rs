@@ -1,0 +1,43 @@
+//! A capture: its bits before n, and the direction. Bits from n on do not exist here.
+
+pub const UPLINK: usize = 0;
+pub const DOWNLINK: usize = 1;
+
+/// The longest capture, in bytes.
+pub const LONGEST: usize = 65_536;
+
+#[derive(Clone, Debug)]
+pub struct Capture {
+    pub bits: Vec<bool>,
+    pub direction: usize,
+}
+
+impl Capture {
+    /// The first `n` bits of `bytes`; the top bit of the first byte was sent first.
+    pub fn new(bytes: &[u8], n: usize, direction: usize) -> Capture {
+        let bits = (0..n).map(|i| bytes[i / 8] & (0x80 >> (i % 8)) != 0);
+        Capture {
+            bits: bits.collect(),
+            direction,
+        }
+    }
+
+    pub fn n(&self) -> usize {
+        self.bits.len()
+    }
+}
+
+/// Bits packed into bytes, the first at the top; the last byte is filled with zeros.
+pub fn pack(bits: &[bool]) -> Vec<u8> {
+    let mut bytes = Vec::new();
+    for eight in bits.chunks(8) {
+        let mut byte = 0;
+        for (i, &bit) in eight.iter().enumerate() {
+            if bit {
+                byte |= 0x80 >> i;
+            }
+        }
+        bytes.push(byte);
+    }
+    bytes
+}
