@@ -28,7 +28,11 @@ const CRCS: [(usize, usize, &str); 12] = [
     (6, 2, "s85 s86 s99..s103 D123..D125"),
     (6, 3, "C1..C5 s1..s17 s27..s34 s48..s51 D52..D54"),
     (7, 0, "C1..C3 D1..D17 D20 D24 D27..D34 D49..D53 D56..D58"),
-    (8, 0, "C1..C3 D1..D20 D22..D24 D27..D32 D52 D53 D55..D57 D59..D61"),
+    (
+        8,
+        0,
+        "C1..C3 D1..D20 D22..D24 D27..D32 D52 D53 D55..D57 D59..D61",
+    ),
 ];
 
 /// In mode 1 to 3, from which s number on the s bits begin at which D number.
@@ -65,7 +69,9 @@ fn make(number: usize) -> Kind {
     let cells = &drawings::all()[number - 1][..body];
     let find = |name: &str| cells.iter().position(|cell| cell == name);
     let count = |letters: &str| -> Vec<usize> {
-        (1..).map_while(|i| find(&format!("{letters}{i}"))).collect()
+        (1..)
+            .map_while(|i| find(&format!("{letters}{i}")))
+            .collect()
     };
     let place = |name: &str| find(name).unwrap_or_else(|| panic!("{name} in kind {number}"));
     let fixed = |(i, cell): (usize, &String)| match cell.as_str() {
@@ -85,7 +91,10 @@ fn make(number: usize) -> Kind {
         fixed: cells.iter().enumerate().filter_map(fixed).collect(),
         c: count("C"),
         xc: count("XC"),
-        crc: ["CRC2", "CRC1", "CRC0"].iter().filter_map(|n| find(n)).collect(),
+        crc: ["CRC2", "CRC1", "CRC0"]
+            .iter()
+            .filter_map(|n| find(n))
+            .collect(),
         d: count("D"),
         crcs,
     }

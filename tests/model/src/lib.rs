@@ -4,9 +4,13 @@
 pub mod capture;
 pub mod crc;
 pub mod drawings;
+pub mod families;
 pub mod frame;
 pub mod kinds;
+pub mod make;
 pub mod page;
 pub mod reading;
 pub mod record;
+pub mod requests;
+pub mod rng;
 pub mod rules;

@@ -1,0 +1,118 @@
+/* The client of the comparison: reads requests on standard input, makes each call with the lent bytes flush against a protected page, and writes the
+ * answer, what changed that must stand, and the whole buffer. It judges nothing else.
+ *
+ * A request is ten 64-bit numbers (call, placement, guard, capture length, n, direction, position, context, most, buffer length), then the capture and
+ * the buffer as it is before the call. The call is 1 for paging; other numbers are free for later calls. Placement: bit 0 set puts the capture at the
+ * end of its pages, bit 1 the buffer; clear, at their start. A reply is the six numbers of the answer, a number of flags, and the buffer. */
+#define _GNU_SOURCE
+#include <stdint.h>
+#include <stdio.h>
+#include <stdlib.h>
+#include <string.h>
+#include <sys/mman.h>
+#include <unistd.h>
+
+typedef struct { uint64_t number, index, items, bytes, position, context; } bellrope_answer;
+bellrope_answer bellrope_page(const uint8_t *capture, size_t capture_len, uint64_t n, uint64_t direction, uint64_t position, uint64_t context,
+                              uint64_t most, uint8_t *buffer, size_t buffer_len);
+
+enum { CALL_PAGE = 1 };
+enum { CAPTURE_CHANGED = 1, CAPTURE_GUARD_CHANGED = 2, BUFFER_GUARD_CHANGED = 4 };
+
+#define LARGEST ((size_t)4 << 20)
+
+/* Pages of which only those in use are open; the page before the first and that behind the last are always protected. */
+typedef struct {
+	uint8_t *first, *end; /* the span that can be opened */
+	int at_end;           /* open pages lie at the end of the span, or at its start */
+	size_t open;          /* bytes open now, whole pages */
+	uint8_t *lent;        /* where the lent bytes begin */
+	size_t len;
+} arena;
+
+static size_t page_size;
+
+static void fail(const char *what) {
+	perror(what);
+	exit(2);
+}
+
+static void arena_make(arena *a, int at_end) {
+	uint8_t *all = mmap(NULL, LARGEST + 2 * page_size, PROT_NONE, MAP_PRIVATE | MAP_ANONYMOUS, -1, 0);
+	if (all == MAP_FAILED) fail("client: mmap");
+	*a = (arena){.first = all + page_size, .end = all + page_size + LARGEST, .at_end = at_end};
+}
+
+static uint8_t *arena_open(const arena *a) { return a->at_end ? a->end - a->open : a->first; }
+
+/* Lends `len` bytes that hold `bytes`; the rest of the open pages is filled with the guard byte. */
+static void arena_lend(arena *a, const uint8_t *bytes, size_t len, uint8_t guard) {
+	size_t open = len == 0 ? page_size : (len + page_size - 1) / page_size * page_size;
+	if (open != a->open) {
+		if (mprotect(a->first, LARGEST, PROT_NONE)) fail("client: mprotect");
+		a->open = open;
+		if (mprotect(arena_open(a), open, PROT_READ | PROT_WRITE)) fail("client: mprotect");
+	}
+	a->lent = a->at_end ? a->end - len : a->first;
+	a->len = len;
+	memset(arena_open(a), guard, open);
+	memcpy(a->lent, bytes, len);
+}
+
+static int guards_stand(const arena *a, uint8_t guard) {
+	const uint8_t *open = arena_open(a);
+	for (const uint8_t *p = open; p < a->lent; p++)
+		if (*p != guard) return 0;
+	for (const uint8_t *p = a->lent + a->len; p < open + a->open; p++)
+		if (*p != guard) return 0;
+	return 1;
+}
+
+/* Reads exactly `len` bytes; 0 at the end of the input before the first of them. */
+static int take(void *to, size_t len) {
+	size_t got = fread(to, 1, len, stdin);
+	if (got == len) return 1;
+	if (got == 0 && feof(stdin)) return 0;
+	fail("client: a request cut short");
+	return 0;
+}
+
+static void give(const void *from, size_t len) {
+	if (fwrite(from, 1, len, stdout) != len) fail("client: write");
+}
+
+int main(void) {
+	static uint8_t capture[LARGEST], buffer[LARGEST];
+	arena captures[2], buffers[2];
+	uint64_t r[10];
+	page_size = (size_t)sysconf(_SC_PAGESIZE);
+	for (int i = 0; i < 2; i++) {
+		arena_make(&captures[i], i);
+		arena_make(&buffers[i], i);
+	}
+	while (take(r, sizeof r)) {
+		uint64_t placement = r[1], n = r[4], direction = r[5], position = r[6], context = r[7], most = r[8];
+		uint8_t guard = (uint8_t)r[2];
+		size_t capture_len = r[3], buffer_len = r[9];
+		arena *c = &captures[placement & 1], *b = &buffers[placement >> 1 & 1];
+		if (r[0] != CALL_PAGE || capture_len > LARGEST || buffer_len > LARGEST) {
+			fprintf(stderr, "client: a request that it does not know\n");
+			return 2;
+		}
+		if ((capture_len && !take(capture, capture_len)) || (buffer_len && !take(buffer, buffer_len))) return 2;
+		arena_lend(c, capture, capture_len, guard);
+		arena_lend(b, buffer, buffer_len, guard);
+
+		bellrope_answer answer = bellrope_page(c->lent, capture_len, n, direction, position, context, most, b->lent, buffer_len);
+
+		uint64_t flags = 0;
+		if (memcmp(c->lent, capture, capture_len)) flags |= CAPTURE_CHANGED;
+		if (!guards_stand(c, guard)) flags |= CAPTURE_GUARD_CHANGED;
+		if (!guards_stand(b, guard)) flags |= BUFFER_GUARD_CHANGED;
+		give(&answer, sizeof answer);
+		give(&flags, sizeof flags);
+		give(b->lent, buffer_len);
+		if (fflush(stdout)) fail("client: write");
+	}
+	return 0;
+}

@@ -1,0 +1,230 @@
+//! Families of captures: the bits before n, and places where something begins or ends.
+
+use crate::kinds::kind;
+use crate::make::{body, frame, near_miss, wrong_crcs};
+use crate::rng::Rng;
+
+#[derive(Clone, Copy, Debug, PartialEq, Eq, PartialOrd, Ord)]
+pub enum Family {
+    Clean,
+    Slipped,
+    Damaged,
+    NearMisses,
+    Modes,
+    Overlaid,
+    Noise,
+    Zeros,
+    Ones,
+    Examples,
+    Empty,
+    Full,
+}
+
+pub const FAMILIES: [Family; 12] = [
+    Family::Clean,
+    Family::Slipped,
+    Family::Damaged,
+    Family::NearMisses,
+    Family::Modes,
+    Family::Overlaid,
+    Family::Noise,
+    Family::Zeros,
+    Family::Ones,
+    Family::Examples,
+    Family::Empty,
+    Family::Full,
+];
+
+/// Bits made for a capture.
+pub struct Made {
+    pub family: Family,
+    pub direction: usize,
+    pub bits: Vec<bool>,
+    pub borders: Vec<usize>,
+}
+
+/// Bit errors in 65,536: from 1e-1 to 1e-4.
+const DAMAGE: [usize; 7] = [6_554, 1_966, 655, 197, 66, 20, 7];
+
+pub fn make(rng: &mut Rng) -> Made {
+    let family = match rng.below(400) {
+        0 => Family::Full,
+        1..=3 => Family::Empty,
+        4..=9 => Family::Zeros,
+        10..=15 => Family::Ones,
+        16..=29 => Family::Examples,
+        30..=49 => Family::Noise,
+        50..=99 => Family::Overlaid,
+        100..=169 => Family::Modes,
+        170..=249 => Family::NearMisses,
+        250..=309 => Family::Damaged,
+        310..=359 => Family::Slipped,
+        _ => Family::Clean,
+    };
+    let mut made = Made {
+        family,
+        direction: rng.below(2),
+        bits: Vec::new(),
+        borders: Vec::new(),
+    };
+    let length = rng.below(4_000);
+    let frames = 1 + rng.below(12);
+    match family {
+        Family::Clean | Family::Slipped | Family::NearMisses => made.run(rng, frames),
+        Family::Damaged => {
+            made.run(rng, frames);
+            made.damage(rng);
+        }
+        Family::Modes => made.modes(rng, frames),
+        Family::Overlaid => made.overlaid(rng, frames),
+        Family::Noise => made.noise(rng, length),
+        Family::Zeros => made.bits = vec![false; length],
+        Family::Ones => made.bits = vec![true; length],
+        Family::Examples => made.example(rng),
+        Family::Empty => {}
+        Family::Full => made.full(rng),
+    }
+    made
+}
+
+impl Made {
+    /// Frames one behind the other, with what the family does to them.
+    fn run(&mut self, rng: &mut Rng, frames: usize) {
+        if rng.bit() {
+            let length = rng.below(20);
+            self.noise(rng, length);
+        }
+        let all: Vec<usize> = (1..=8).collect();
+        let some = [rng.of(&all), rng.of(&all)];
+        let kinds = if rng.bit() { &all[..] } else { &some[..] };
+        let mut context = 0;
+        for _ in 0..frames {
+            let number = rng.of(kinds);
+            context = self.frame(rng, number, context);
+        }
+    }
+
+    /// Puts a frame behind the bits that there are, and gives the context behind it.
+    fn frame(&mut self, rng: &mut Rng, number: usize, context: u64) -> u64 {
+        let mut body = body(rng, number, self.direction, context);
+        let after = frame(number, &body).context_after();
+        let least = kind(number).least_tail[self.direction];
+        let mut tail = kind(number).usual_tail;
+        match self.family {
+            Family::Slipped => {
+                tail = match rng.below(8) {
+                    0 => rng.below(600),
+                    1..=4 => least + rng.below(4),
+                    _ => tail,
+                };
+                match rng.below(8) {
+                    0 => drop(body.remove(rng.below(body.len()))),
+                    1 => body.insert(rng.below(body.len()), rng.bit()),
+                    _ => {}
+                }
+            }
+            Family::NearMisses => match rng.below(6) {
+                0 | 1 => near_miss(rng, &mut body, number),
+                2 => tail = least.saturating_sub(1),
+                3 => tail = least,
+                _ => {}
+            },
+            _ => {}
+        }
+        self.borders.push(self.bits.len());
+        self.bits.extend(&body);
+        self.borders.push(self.bits.len());
+        self.bits.extend(vec![true; tail]);
+        self.borders.push(self.bits.len());
+        after
+    }
+
+    /// Runs for the memory of modes: mostly kind 6, CRCs wrong one by one.
+    fn modes(&mut self, rng: &mut Rng, frames: usize) {
+        let mut context = 0;
+        for _ in 0..frames {
+            let number = rng.of(&[6, 6, 6, 6, 5, 7, 8, 1, 2]);
+            // Often right by another context than the one that it stands in.
+            let checked_by = if rng.once_in(4) {
+                2 + rng.below(4) as u64
+            } else {
+                context
+            };
+            let mut body = body(rng, number, self.direction, checked_by);
+            if rng.once_in(3) {
+                wrong_crcs(rng, &mut body, number, checked_by);
+            }
+            context = frame(number, &body).context_after();
+            self.borders.push(self.bits.len());
+            self.bits.extend(body);
+            self.bits.extend(vec![true; kind(number).usual_tail]);
+        }
+    }
+
+    /// Frames put over one another.
+    fn overlaid(&mut self, rng: &mut Rng, frames: usize) {
+        let length = 170 + rng.below(1_000);
+        self.noise(rng, length);
+        for _ in 0..frames {
+            let number = 1 + rng.below(8);
+            let context = rng.below(6) as u64;
+            let mut bits = body(rng, number, self.direction, context);
+            bits.extend(vec![true; rng.below(4)]);
+            let at = rng.below(length - bits.len());
+            self.bits[at..at + bits.len()].copy_from_slice(&bits);
+            self.borders.extend([at, at + bits.len()]);
+        }
+    }
+
+    fn noise(&mut self, rng: &mut Rng, length: usize) {
+        let ones = rng.of(&[32_768, 32_768, 16_384, 4_096, 500, 49_152, 61_440]);
+        self.bits.extend((0..length).map(|_| rng.parts(ones)));
+    }
+
+    fn damage(&mut self, rng: &mut Rng) {
+        let errors = rng.of(&DAMAGE);
+        for bit in &mut self.bits {
+            *bit ^= rng.parts(errors);
+        }
+    }
+
+    /// The captures of the specification's examples, one behind the other in any order.
+    fn example(&mut self, rng: &mut Rng) {
+        let h = "008844 808080808080 F0 808080808080808080 BF";
+        let z = "200080 0000000000000000000000000000000000";
+        let seven = "00809080800080008060 80008000800080008000";
+        for _ in 0..1 + rng.below(4) {
+            self.borders.push(self.bits.len());
+            let text = rng.of(&["FF", h, z, seven]).replace(' ', "");
+            for digit in text.chars() {
+                let digit = digit.to_digit(16).expect("a digit");
+                self.bits.extend([3, 2, 1, 0].map(|i| digit >> i & 1 != 0));
+            }
+        }
+    }
+
+    /// The longest capture that is allowed: frames, noise, zeros or ones, with a frame at the end.
+    fn full(&mut self, rng: &mut Rng) {
+        let all = 8 * crate::capture::LONGEST;
+        match rng.below(6) {
+            0 => self.noise(rng, all),
+            1 => self.bits = vec![false; all],
+            2 => self.bits = vec![true; all],
+            _ => {
+                self.family = rng.of(&[Family::Clean, Family::Slipped, Family::NearMisses]);
+                while self.bits.len() < all {
+                    self.run(rng, 100);
+                }
+                self.family = Family::Full;
+                self.damage(rng);
+            }
+        }
+        let number = 1 + rng.below(8);
+        let mut last = body(rng, number, self.direction, 0);
+        last.extend(vec![true; rng.below(4)]);
+        self.bits.truncate(all - last.len());
+        self.borders.retain(|&p| p <= all - last.len());
+        self.borders.push(self.bits.len());
+        self.bits.extend(last);
+    }
+}

@@ -1,0 +1,102 @@
+//! Frames made for captures: bodies with any allowed coding and right CRCs, and spoilt ones.
+
+use crate::crc;
+use crate::frame::{coding_holds, Frame};
+use crate::kinds::kind;
+use crate::rng::Rng;
+
+/// A body of a kind whose coding holds and whose CRCs are right in a context.
+pub fn body(rng: &mut Rng, number: usize, direction: usize, context: u64) -> Vec<bool> {
+    let kind = kind(number);
+    let ones = rng.of(&[0, 4_096, 32_768, 32_768, 32_768, 61_440, 65_536]);
+    let mut body: Vec<bool> = (0..kind.body).map(|_| rng.parts(ones)).collect();
+    for &(i, bit) in &kind.fixed {
+        body[i] = bit;
+    }
+    loop {
+        for &i in kind.c.iter().chain(&kind.xc) {
+            body[i] = rng.bit();
+        }
+        if coding_holds(&body, kind, direction) {
+            break;
+        }
+    }
+    right_crcs(&mut body, number, context);
+    body
+}
+
+/// The frame of a body, as if it stood at bit 0 without a tail.
+pub fn frame(number: usize, body: &[bool]) -> Frame {
+    Frame {
+        kind: number,
+        start: 0,
+        tail: 0,
+        body: body.to_vec(),
+    }
+}
+
+/// Makes each CRC right in a context. A later CRC may cover no earlier one.
+pub fn right_crcs(body: &mut [bool], number: usize, context: u64) {
+    let mode = frame(number, body).mode(context);
+    for places in &kind(number).crcs[mode] {
+        let (covered, three) = places.split_at(places.len() - 3);
+        let covered: Vec<bool> = covered.iter().map(|&i| body[i]).collect();
+        for (&i, bit) in three.iter().zip(crc::of(&covered)) {
+            body[i] = bit;
+        }
+    }
+}
+
+/// Makes some CRCs of a context wrong, by one bit each.
+pub fn wrong_crcs(rng: &mut Rng, body: &mut [bool], number: usize, context: u64) {
+    let mode = frame(number, body).mode(context);
+    for places in &kind(number).crcs[mode] {
+        if rng.bit() {
+            let i = places[places.len() - 1 - rng.below(3)];
+            body[i] = !body[i];
+        }
+    }
+}
+
+/// Spoils a body a little, so that it is just no frame, or another, or one with a wrong CRC.
+pub fn near_miss(rng: &mut Rng, body: &mut [bool], number: usize) {
+    let kind = kind(number);
+    let flip = |body: &mut [bool], i: usize| body[i] = !body[i];
+    match rng.below(6) {
+        0 => flip(body, rng.of(&kind.fixed).0),
+        1 => flip(body, rng.of(&kind.c)),
+        2 if !kind.xc.is_empty() => flip(body, rng.of(&kind.xc)),
+        // Another coding with the parity that it needs.
+        3 if number <= 4 => {
+            for &i in &kind.c[..4] {
+                body[i] = rng.bit();
+            }
+            odd(body, &kind.c[..5]);
+        }
+        4 if !kind.xc.is_empty() => {
+            for &i in &kind.xc {
+                body[i] = rng.bit();
+            }
+            odd(body, &kind.xc);
+        }
+        4 if number == 5 => {
+            for &i in &kind.c[..3] {
+                body[i] = rng.bit();
+            }
+        }
+        _ => {
+            let modes: Vec<_> = kind.crcs.iter().flatten().collect();
+            match modes.is_empty() {
+                true => flip(body, rng.of(&kind.d)),
+                false => flip(body, rng.of(modes[rng.below(modes.len())])),
+            }
+        }
+    }
+}
+
+/// Sets the last of the places so that their ones are odd.
+fn odd(body: &mut [bool], places: &[usize]) {
+    let (last, first) = places.split_last().expect("places");
+    let first: Vec<bool> = first.iter().map(|&i| body[i]).collect();
+    body[*last] = !crc::odd(&first);
+}
