@@ -19,9 +19,9 @@ use Rattle.channel.specs.declared.Kind.{Kind}
 use Rattle.channel.specs.declared.Kind.the-variants.{Speech, Data, Om, Configuration, NoSpeech, Lower, Amr670, Amr740}
 use Rattle.channel.specs.Kinds.{kinds, kindNo, patternOf, bodyOf, dCount}
 use Rattle.channel.specs.Places.{elem, zerosOf, onesOf, cPlaces, xcPlaces, crcPlaces, c6Places, besides, taken, dPlaces}
-use Rattle.channel.specs.Coding.{Word, wordAt, bitsAt, ones, odd, fixed, coded, isBody}
+use Rattle.channel.specs.Coding.{Word, wordAt, bitsAt, ones, odd, fixed, coded, xcCoded, isBody}
 use Rattle.channel.specs.Control.{fromTop, controlPlaces, control, extended}
-use Rattle.channel.proofs.BoolLaws.{ands, zero-at, one-at}
+use Rattle.channel.proofs.BoolLaws.{ands, and-both, zero-at, one-at}
 use Rattle.channel.proofs.DLaws.{d-rule}
 use Rattle.dbits.specs.DBits.{dBytes}
 use Rattle.dbits.proofs.DBitLaws.{d-length, fromTop-bit, dBytes-bit}
@@ -149,6 +149,34 @@ elem-right i (p ∷ ps) qs m = go (eqb i p) (elem-right i ps qs m)
     go true m = refl
     go false m = m
 
+-- what coding says of the bits that a record does not hold: parities, and XC1..XC5 of an O&M frame
+abbrev pub implied : Word → Kind → Bool
+implied g Speech = odd (bitsAt g (cPlaces Hr)) && odd (bitsAt g xcPlaces)
+implied g Data = odd (bitsAt g (cPlaces Hr))
+implied g Om = odd (bitsAt g (cPlaces Hr)) && xcCoded g (31 ∷ [])
+implied g Configuration = odd (bitsAt g (cPlaces Hr))
+implied g NoSpeech = true
+implied g Lower = true
+implied g Amr670 = true
+implied g Amr740 = true
+
+-- fixed bits and those bits are as a kind has them
+abbrev pub framed : Word → Kind → Bool
+framed g k = fixed g (patternOf k) && implied g k
+
+coded-implied : (d : Direction) (g : Word) (k : Kind) → coded d g k ≡ true → implied g k ≡ true
+coded-implied d g Speech h = and-both (odd (bitsAt g (cPlaces Hr))) (odd (bitsAt g xcPlaces)) (search ands) (search ands)
+coded-implied d g Data h = search ands
+coded-implied d g Om h = and-both (odd (bitsAt g (cPlaces Hr))) (xcCoded g (31 ∷ [])) (search ands) (search ands)
+coded-implied d g Configuration h = search ands
+coded-implied d g NoSpeech h = refl
+coded-implied d g Lower h = refl
+coded-implied d g Amr670 h = refl
+coded-implied d g Amr740 h = refl
+
+pub body-framed : (d : Direction) (g : Word) (k : Kind) → isBody d g k ≡ true → framed g k ≡ true
+body-framed d g k h = and-both (fixed g (patternOf k)) (implied g k) (search ands) (coded-implied d g k (search ands))
+
 module _ (g h : Word) where
   same-bits : (ps : List ℕ) → Same g h ps → bitsAt g ps ≡ bitsAt h ps
   same-bits [] s = refl
@@ -189,103 +217,102 @@ module _ (g h : Word) where
   same-both : (ps qs : List ℕ) → Same g h ps → Same g h qs → Same g h (ps ++ qs)
   same-both ps qs a b i m = same-part g h i ps qs m (a i) (b i)
 
-  module _ (d : Direction) where
-    -- control tells C1.., with the parity bit of the HR pattern
-    same-c : (k : Kind) → isBody d g k ≡ true → isBody d h k ≡ true → Same g h (controlPlaces k) → Same g h (cPlaces (patternOf k))
-    same-c Speech a b s = same-parity (take 4 (cPlaces Hr)) 13 (same-some (take 4 (cPlaces Hr)) c6Places s) (search ands) (search ands)
-    same-c Data a b s = same-parity (take 4 (cPlaces Hr)) 13 s (search ands) (search ands)
-    same-c Om a b s = same-parity (take 4 (cPlaces Hr)) 13 s (search ands) (search ands)
-    same-c Configuration a b s = same-parity (take 4 (cPlaces Hr)) 13 s (search ands) (search ands)
-    same-c NoSpeech a b s = s
-    same-c Lower a b s = s
-    same-c Amr670 a b s = s
-    same-c Amr740 a b s = s
+  -- control tells C1.., with the parity bit of the HR pattern
+  same-c : (k : Kind) → framed g k ≡ true → framed h k ≡ true → Same g h (controlPlaces k) → Same g h (cPlaces (patternOf k))
+  same-c Speech a b s = same-parity (take 4 (cPlaces Hr)) 13 (same-some (take 4 (cPlaces Hr)) c6Places s) (search ands) (search ands)
+  same-c Data a b s = same-parity (take 4 (cPlaces Hr)) 13 s (search ands) (search ands)
+  same-c Om a b s = same-parity (take 4 (cPlaces Hr)) 13 s (search ands) (search ands)
+  same-c Configuration a b s = same-parity (take 4 (cPlaces Hr)) 13 s (search ands) (search ands)
+  same-c NoSpeech a b s = s
+  same-c Lower a b s = s
+  same-c Amr670 a b s = s
+  same-c Amr740 a b s = s
 
-    -- XC1..XC5 of an O&M frame are ones
-    om-ones : (f : Word) → isBody d f Om ≡ true → (i : ℕ) → elem i (take 5 xcPlaces) ≡ true → f i ≡ true
-    om-ones f a i m = let (j, l, e) = elem-index i (take 5 xcPlaces) m in subst (λ (q : ℕ). f q ≡ true) e (at j l)
-      where
-        five : elem (number (f 14 ∷ f 15 ∷ f 18 ∷ f 19 ∷ f 20 ∷ [])) (31 ∷ []) ≡ true
-        five = search ands
+  -- XC1..XC5 of an O&M frame are ones
+  om-ones : (f : Word) → framed f Om ≡ true → (i : ℕ) → elem i (take 5 xcPlaces) ≡ true → f i ≡ true
+  om-ones f a i m = let (j, l, e) = elem-index i (take 5 xcPlaces) m in subst (λ (q : ℕ). f q ≡ true) e (at j l)
+    where
+      five : elem (number (f 14 ∷ f 15 ∷ f 18 ∷ f 19 ∷ f 20 ∷ [])) (31 ∷ []) ≡ true
+      five = search ands
 
-        value : number (f 14 ∷ f 15 ∷ f 18 ∷ f 19 ∷ f 20 ∷ []) ≡ 31
-        value = only (number (f 14 ∷ f 15 ∷ f 18 ∷ f 19 ∷ f 20 ∷ [])) five
-          where
-            only : (v : ℕ) → elem v (31 ∷ []) ≡ true → v ≡ 31
-            only v m = let (j, l, e) = elem-index v (31 ∷ []) m in go j l e
-              where
-                go : (j : ℕ) → j < 1 → getD (31 ∷ []) j 0 ≡ v → v ≡ 31
-                go zero l e = sym e
-                go (suc j) l e = absurd (omega arith)
+      value : number (f 14 ∷ f 15 ∷ f 18 ∷ f 19 ∷ f 20 ∷ []) ≡ 31
+      value = only (number (f 14 ∷ f 15 ∷ f 18 ∷ f 19 ∷ f 20 ∷ [])) five
+        where
+          only : (v : ℕ) → elem v (31 ∷ []) ≡ true → v ≡ 31
+          only v m = let (j, l, e) = elem-index v (31 ∷ []) m in go j l e
+            where
+              go : (j : ℕ) → j < 1 → getD (31 ∷ []) j 0 ≡ v → v ≡ 31
+              go zero l e = sym e
+              go (suc j) l e = absurd (omega arith)
 
-        bit-le : (b : Bool) → toN b ≤ 1
-        bit-le true = omega arith
-        bit-le false = omega arith
+      bit-le : (b : Bool) → toN b ≤ 1
+      bit-le true = omega arith
+      bit-le false = omega arith
 
-        one : (b : Bool) → toN b ≡ 1 → b ≡ true
-        one true e = refl
-        one false e = absurd (omega arith)
+      one : (b : Bool) → toN b ≡ 1 → b ≡ true
+      one true e = refl
+      one false e = absurd (omega arith)
 
-        at : (j : ℕ) → j < 5 → f (getD (take 5 xcPlaces) j 0) ≡ true
-        at zero l = one (f 14) (omega (arith, value, bit-le (f 14), bit-le (f 15), bit-le (f 18), bit-le (f 19), bit-le (f 20)))
-        at (suc zero) l = one (f 15) (omega (arith, value, bit-le (f 14), bit-le (f 15), bit-le (f 18), bit-le (f 19), bit-le (f 20)))
-        at (suc (suc zero)) l = one (f 18) (omega (arith, value, bit-le (f 14), bit-le (f 15), bit-le (f 18), bit-le (f 19), bit-le (f 20)))
-        at (suc (suc (suc zero))) l = one (f 19) (omega (arith, value, bit-le (f 14), bit-le (f 15), bit-le (f 18), bit-le (f 19), bit-le (f 20)))
-        at (suc (suc (suc (suc zero)))) l = one (f 20) (omega (arith, value, bit-le (f 14), bit-le (f 15), bit-le (f 18), bit-le (f 19), bit-le (f 20)))
-        at (suc (suc (suc (suc (suc j))))) l = absurd (omega arith)
+      at : (j : ℕ) → j < 5 → f (getD (take 5 xcPlaces) j 0) ≡ true
+      at zero l = one (f 14) (omega (arith, value, bit-le (f 14), bit-le (f 15), bit-le (f 18), bit-le (f 19), bit-le (f 20)))
+      at (suc zero) l = one (f 15) (omega (arith, value, bit-le (f 14), bit-le (f 15), bit-le (f 18), bit-le (f 19), bit-le (f 20)))
+      at (suc (suc zero)) l = one (f 18) (omega (arith, value, bit-le (f 14), bit-le (f 15), bit-le (f 18), bit-le (f 19), bit-le (f 20)))
+      at (suc (suc (suc zero))) l = one (f 19) (omega (arith, value, bit-le (f 14), bit-le (f 15), bit-le (f 18), bit-le (f 19), bit-le (f 20)))
+      at (suc (suc (suc (suc zero)))) l = one (f 20) (omega (arith, value, bit-le (f 14), bit-le (f 15), bit-le (f 18), bit-le (f 19), bit-le (f 20)))
+      at (suc (suc (suc (suc (suc j))))) l = absurd (omega arith)
 
-    nowhere : (i : ℕ) → elem i [] ≡ true → g i ≡ h i
-    nowhere i m = let z : _≡_ {A = ℕ} 0 1 = cc in absurd (omega arith)
+  nowhere : (i : ℕ) → elem i [] ≡ true → g i ≡ h i
+  nowhere i m = let z : _≡_ {A = ℕ} 0 1 = cc in absurd (omega arith)
 
-    -- control and extended tell what a kind has besides
-    same-besides : (k : Kind) → isBody d g k ≡ true → isBody d h k ≡ true → Same g h (controlPlaces k) → extended g k ≡ extended h k → Same g h (besides k)
-    unfolding extended
-    same-besides Speech a b s e =
-        let x = same-top g h (take 5 xcPlaces ++ crcPlaces) (omega arith) e in
-        same-both xcPlaces (crcPlaces ++ c6Places) (same-parity (take 5 xcPlaces) 21 (same-some (take 5 xcPlaces) crcPlaces x) (search ands) (search ands))
-        (same-both crcPlaces c6Places (same-rest (take 5 xcPlaces) crcPlaces x) (same-rest (take 4 (cPlaces Hr)) c6Places s))
-    same-besides Data a b s e = λ i m. nowhere i m
-    same-besides Om a b s e = same-parity (take 5 xcPlaces) 21 (λ i m. om-ones g a i m ∙ sym (om-ones h b i m)) (search ands) (search ands)
-    same-besides Configuration a b s e = λ i m. nowhere i m
-    same-besides NoSpeech a b s e = λ i m. nowhere i m
-    same-besides Lower a b s e = λ i m. nowhere i m
-    same-besides Amr670 a b s e = λ i m. nowhere i m
-    same-besides Amr740 a b s e = λ i m. nowhere i m
+  -- control and extended tell what a kind has besides
+  same-besides : (k : Kind) → framed g k ≡ true → framed h k ≡ true → Same g h (controlPlaces k) → extended g k ≡ extended h k → Same g h (besides k)
+  unfolding extended
+  same-besides Speech a b s e =
+      let x = same-top g h (take 5 xcPlaces ++ crcPlaces) (omega arith) e in
+      same-both xcPlaces (crcPlaces ++ c6Places) (same-parity (take 5 xcPlaces) 21 (same-some (take 5 xcPlaces) crcPlaces x) (search ands) (search ands))
+      (same-both crcPlaces c6Places (same-rest (take 5 xcPlaces) crcPlaces x) (same-rest (take 4 (cPlaces Hr)) c6Places s))
+  same-besides Data a b s e = λ i m. nowhere i m
+  same-besides Om a b s e = same-parity (take 5 xcPlaces) 21 (λ i m. om-ones g a i m ∙ sym (om-ones h b i m)) (search ands) (search ands)
+  same-besides Configuration a b s e = λ i m. nowhere i m
+  same-besides NoSpeech a b s e = λ i m. nowhere i m
+  same-besides Lower a b s e = λ i m. nowhere i m
+  same-besides Amr670 a b s e = λ i m. nowhere i m
+  same-besides Amr740 a b s e = λ i m. nowhere i m
 
-    few : (k : Kind) → length (controlPlaces k) ≤ 8
-    few Speech = omega arith
-    few Data = omega arith
-    few Om = omega arith
-    few Configuration = omega arith
-    few NoSpeech = omega arith
-    few Lower = omega arith
-    few Amr670 = omega arith
-    few Amr740 = omega arith
+  few : (k : Kind) → length (controlPlaces k) ≤ 8
+  few Speech = omega arith
+  few Data = omega arith
+  few Om = omega arith
+  few Configuration = omega arith
+  few NoSpeech = omega arith
+  few Lower = omega arith
+  few Amr670 = omega arith
+  few Amr740 = omega arith
 
-    -- two bodies with the same control, extended and D bytes are one
-    body-same : (k : Kind) → isBody d g k ≡ true → isBody d h k ≡ true → control g k ≡ control h k → extended g k ≡ extended h k → take (dLength k) (dBytes g k) ≡ take (dLength k) (dBytes h k)
-        → (i : ℕ) → i < bodyOf k → g i ≡ h i
-    unfolding control
-    body-same k a b c e ds i l = go (elem i (taken k)) refl
-      where
-        s : Same g h (controlPlaces k)
-        s = same-top g h (controlPlaces k) (few k) c
+  -- two bodies with the same control, extended and D bytes are one
+  pub body-same : (k : Kind) → framed g k ≡ true → framed h k ≡ true → control g k ≡ control h k → extended g k ≡ extended h k → take (dLength k) (dBytes g k) ≡ take (dLength k) (dBytes h k)
+      → (i : ℕ) → i < bodyOf k → g i ≡ h i
+  unfolding control
+  body-same k a b c e ds i l = go (elem i (taken k)) refl
+    where
+      s : Same g h (controlPlaces k)
+      s = same-top g h (controlPlaces k) (few k) c
 
-        fg : fixed g (patternOf k) ≡ true
-        fg = search ands
+      fg : fixed g (patternOf k) ≡ true
+      fg = search ands
 
-        fh : fixed h (patternOf k) ≡ true
-        fh = search ands
+      fh : fixed h (patternOf k) ≡ true
+      fh = search ands
 
-        go : (m : Bool) → elem i (taken k) ≡ m → g i ≡ h i
-        go false m = same-d g h k ds i (d-rule k .whole i l m)
-        go true m =
-            same-both ((zerosOf (patternOf k) ++ onesOf (patternOf k)) ++ cPlaces (patternOf k)) (besides k)
-            (same-both (zerosOf (patternOf k) ++ onesOf (patternOf k)) (cPlaces (patternOf k))
-            (same-both (zerosOf (patternOf k)) (onesOf (patternOf k)) (λ i m. zero-at g (patternOf k) i m fg ∙ sym (zero-at h (patternOf k) i m fh))
-            (λ i m. one-at g (patternOf k) i m fg ∙ sym (one-at h (patternOf k) i m fh)))
-            (same-c k a b s))
-            (same-besides k a b s e) i m
+      go : (m : Bool) → elem i (taken k) ≡ m → g i ≡ h i
+      go false m = same-d g h k ds i (d-rule k .whole i l m)
+      go true m =
+          same-both ((zerosOf (patternOf k) ++ onesOf (patternOf k)) ++ cPlaces (patternOf k)) (besides k)
+          (same-both (zerosOf (patternOf k) ++ onesOf (patternOf k)) (cPlaces (patternOf k))
+          (same-both (zerosOf (patternOf k)) (onesOf (patternOf k)) (λ i m. zero-at g (patternOf k) i m fg ∙ sym (zero-at h (patternOf k) i m fh))
+          (λ i m. one-at g (patternOf k) i m fg ∙ sym (one-at h (patternOf k) i m fh)))
+          (same-c k a b s))
+          (same-besides k a b s e) i m
 
 -- a number of four bytes is told by them
 byte-more : (v u : ℕ) → v / 256 ≡ u / 256 → v % 256 ≡ u % 256 → v ≡ u
@@ -356,7 +383,8 @@ module _ (d : Direction) (f g : Frame) (a : FitFrame d f) (b : FitFrame d g) (r 
   same-body : f .body ≡ g .body
   same-body =
       let q = sym same-kind in
-      let here = body-same (f .body) (g .body) d (f .kind) (a .holds) (subst (λ (k : Kind). isBody d (g .body) k ≡ true) q (b .holds))
+      let here = body-same (f .body) (g .body) (f .kind) (body-framed d (f .body) (f .kind) (a .holds))
+      (body-framed d (g .body) (f .kind) (subst (λ (k : Kind). isBody d (g .body) k ≡ true) q (b .holds)))
       (same-control ∙ ap (control (g .body)) q) (same-extended ∙ ap (extended (g .body)) q) (rests .0 ∙ ap (λ (k : Kind). take (dLength k) (dBytes (g .body) k)) q) in
       a .cut ∙ words-one (f .body) (g .body) (bodyOf (f .kind)) here ∙ ap (λ (k : Kind). wordAt (g .body) 0 (bodyOf k)) same-kind ∙ sym (b .cut)
 

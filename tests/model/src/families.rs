@@ -48,9 +48,9 @@ const DAMAGE: [usize; 7] = [6_554, 1_966, 655, 197, 66, 20, 7];
 
 pub fn make(rng: &mut Rng) -> Made {
     let family = match rng.below(400) {
-        0 => Family::Full,
-        1..=3 => Family::Empty,
-        4..=9 => Family::Zeros,
+        0..=2 => Family::Full,
+        3..=5 => Family::Empty,
+        6..=9 => Family::Zeros,
         10..=15 => Family::Ones,
         16..=29 => Family::Examples,
         30..=49 => Family::Noise,
@@ -203,13 +203,18 @@ impl Made {
         }
     }
 
-    /// The longest capture that is allowed: frames, noise, zeros or ones, with a frame at the end.
+    /// The longest capture that is allowed: frames, noise, zeros or ones, often with a frame at
+    /// the start and at the end.
     fn full(&mut self, rng: &mut Rng) {
         let all = 8 * crate::capture::LONGEST;
+        if rng.bit() {
+            let number = 1 + rng.below(8);
+            self.frame(rng, number, 0);
+        }
         match rng.below(6) {
             0 => self.noise(rng, all),
-            1 => self.bits = vec![false; all],
-            2 => self.bits = vec![true; all],
+            1 => self.bits.resize(all, false),
+            2 => self.bits.resize(all, true),
             _ => {
                 self.family = rng.of(&[Family::Clean, Family::Slipped, Family::NearMisses]);
                 while self.bits.len() < all {

@@ -84,12 +84,14 @@ pub fn near_miss(rng: &mut Rng, body: &mut [bool], number: usize) {
                 body[i] = rng.bit();
             }
         }
+        // One bit that a CRC covers, or a CRC bit; it may be a CRC of another mode.
         _ => {
-            let modes: Vec<_> = kind.crcs.iter().flatten().collect();
-            match modes.is_empty() {
-                true => flip(body, rng.of(&kind.d)),
-                false => flip(body, rng.of(modes[rng.below(modes.len())])),
-            }
+            let crcs: Vec<&Vec<usize>> = kind.crcs.iter().flatten().collect();
+            let places = match crcs.is_empty() {
+                true => &kind.d,
+                false => rng.of(&crcs),
+            };
+            flip(body, rng.of(places));
         }
     }
 }

@@ -39,10 +39,9 @@ fn read(bytes: &[u8], n: usize, direction: usize) -> Vec<Item> {
 fn list(bytes: &[u8], n: usize, direction: usize) -> Vec<String> {
     let line = |item: &Item| match item {
         Item::Gap { start, length } => format!("G {start} {length}"),
-        Item::Frame { frame, verdict } => format!(
-            "F {} {} {} {verdict}",
-            frame.kind, frame.start, frame.tail
-        ),
+        Item::Frame { frame, verdict } => {
+            format!("F {} {} {} {verdict}", frame.kind, frame.start, frame.tail)
+        }
     };
     read(bytes, n, direction).iter().map(line).collect()
 }

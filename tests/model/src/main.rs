@@ -1,0 +1,97 @@
+//! `model compare --calls N --seed S [--only CASE] --client COMMAND..`: compares the library with the model on N calls or a few more. Exit status: 0 no
+//! difference, 1 a difference or something never hit, 2 bad usage, 3 the model breaks its own rules.
+
+mod client;
+mod compare;
+mod coverage;
+
+use client::Client;
+use compare::{Comparison, Stop};
+use coverage::Coverage;
+use std::process::ExitCode;
+use std::time::Instant;
+
+struct Options {
+    calls: u64,
+    seed: u64,
+    only: Option<u64>,
+    client: Vec<String>,
+}
+
+fn options() -> Option<Options> {
+    let mut words = std::env::args().skip(1);
+    let mut options = Options {
+        calls: 100_000,
+        seed: 1,
+        only: None,
+        client: Vec::new(),
+    };
+    if words.next()? != "compare" {
+        return None;
+    }
+    while let Some(word) = words.next() {
+        match word.as_str() {
+            "--calls" => options.calls = words.next()?.parse().ok()?,
+            "--seed" => options.seed = words.next()?.parse().ok()?,
+            "--only" => options.only = Some(words.next()?.parse().ok()?),
+            "--client" => options.client = words.by_ref().collect(),
+            _ => return None,
+        }
+    }
+    (!options.client.is_empty()).then_some(options)
+}
+
+fn main() -> ExitCode {
+    let Some(options) = options() else {
+        eprintln!("model compare --calls N --seed S [--only CASE] --client COMMAND..");
+        return ExitCode::from(2);
+    };
+    let client = match Client::start(&options.client) {
+        Ok(client) => client,
+        Err(error) => {
+            eprintln!("model: {}: {error}", options.client[0]);
+            return ExitCode::from(2);
+        }
+    };
+    compare(&options, client)
+}
+
+fn compare(options: &Options, client: Client) -> ExitCode {
+    let begin = Instant::now();
+    let mut comparison = Comparison {
+        client,
+        coverage: Coverage::default(),
+        calls: 0,
+    };
+    let mut case = options.only.unwrap_or(0);
+    while comparison.calls < options.calls {
+        if let Err(stop) = comparison.case(options.seed, case) {
+            let seed = options.seed;
+            let call = comparison.calls;
+            let (code, text) = match stop {
+                Stop::Difference(text) => (1, format!("DIFFERENCE\n{text}")),
+                Stop::Model(text) => (3, format!("THE MODEL IS WRONG\n{text}")),
+            };
+            println!("seed {seed}, case {case}, call {call} of the run (repeat: --seed {seed} --only {case}): {text}");
+            return ExitCode::from(code);
+        }
+        case += 1;
+        if options.only.is_some() {
+            println!("case {} of seed {}: no difference", case - 1, options.seed);
+            return ExitCode::SUCCESS;
+        }
+    }
+    let (line, never) = comparison.coverage.line();
+    println!("{line}");
+    let calls = comparison.calls;
+    let seconds = begin.elapsed().as_secs();
+    println!(
+        "compare: {calls} calls in {case} cases, seed {}, no difference, {seconds} s",
+        options.seed
+    );
+    if !never.is_empty() {
+        println!("compare: never hit: {}", never.join(", "));
+        return ExitCode::from(1);
+    }
+    ExitCode::SUCCESS
+}
