@@ -10,7 +10,8 @@ pub struct Client {
     from: ChildStdout,
 }
 
-/// What the client gives back. Flags: 1 the capture, 2 or 4 a guard byte of capture or buffer changed.
+/// What the client gives back. Flags: 1 the capture changed, 2 a guard byte around it, 4 a guard
+/// byte around the buffer.
 #[derive(Clone, Debug, PartialEq)]
 pub struct Reply {
     pub answer: Answer,

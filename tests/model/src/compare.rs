@@ -2,6 +2,7 @@
 
 use crate::client::{Client, Reply};
 use crate::coverage::Coverage;
+use model::capture::LONGEST;
 use model::families;
 use model::page::{page, page_of, Page, Request};
 use model::reading::{reading, Cursor, Item};
@@ -25,7 +26,8 @@ pub struct Comparison {
 }
 
 impl Comparison {
-    /// One case: a capture, some requests, sometimes a harvest; then the rules on the model's own reading.
+    /// One case: a capture, some requests, sometimes a harvest; then the rules on the model's own
+    /// reading.
     pub fn case(&mut self, seed: u64, case: u64) -> Result<(), Stop> {
         let mut rng = Rng::new(seed, case);
         let made = families::make(&mut rng);
@@ -50,7 +52,7 @@ impl Comparison {
         if lent.too_long() {
             return Ok(());
         }
-        if rng.once_in(3) {
+        if rng.once_in(3) || lent.bytes.len() == LONGEST {
             self.harvest(&mut rng, &lent)?;
         }
         let mut cursors = vec![Cursor {
@@ -95,7 +97,7 @@ impl Comparison {
         };
         loop {
             request.most = rng.of(&[1, 2, 5, 50, u64::MAX]);
-            request.buffer = vec![rng.next() as u8; rng.below(largest + 1)];
+            request.buffer = vec![rng.draw() as u8; rng.below(largest + 1)];
             let expected = page_of(&request, capture);
             let answer = self.call(rng, &request, &expected)?;
             joined.extend(&answer.buffer[..answer.answer.bytes as usize]);
@@ -106,7 +108,7 @@ impl Comparison {
             }
         }
         self.coverage.add("harvest");
-        if lent.bytes.len() == model::capture::LONGEST {
+        if lent.bytes.len() == LONGEST {
             self.coverage.add("full harvest");
         }
         match joined == whole && request.position == request.n {
@@ -120,7 +122,7 @@ impl Comparison {
     /// Makes one call and compares every number and every byte.
     fn call(&mut self, rng: &mut Rng, request: &Request, expected: &Page) -> Result<Reply, Stop> {
         self.calls += 1;
-        let reply = self.client.page(request, rng.next() & 3, rng.next() & 255);
+        let reply = self.client.page(request, rng.draw() & 3, rng.draw() & 255);
         self.coverage.page(request, expected);
         match reply {
             Err(error) => Err(difference(request, expected, Err(&error))),

@@ -25,6 +25,7 @@ impl Coverage {
     /// Counts one compared call. A cause counts where it alone refuses.
     pub fn page(&mut self, request: &Request, page: &Page) {
         self.add(&format!("number {}", page.answer.number));
+        self.add(&format!("buffer {}", request.buffer.len()));
         if let [cause] = page.causes[..] {
             self.add(&format!("{cause:?}"));
         }
@@ -95,10 +96,15 @@ impl Coverage {
             let kinds = (0..=8).filter(|kind| *kind != 8 || context >= 2);
             pairs.extend(kinds.map(|kind| format!("kind {kind} in context {context}")));
         }
-        let all = pairs.len();
-        let hit = pairs.iter().filter(|pair| self.count(pair) > 0).count();
-        counts(pairs);
-        parts.push(format!("first item by context: {hit} of {all}"));
+        for (name, list) in [
+            ("kind of the first item by context", pairs),
+            ("buffer lengths 0..80", range("buffer", 0, 80)),
+        ] {
+            let all = list.len();
+            let hit = list.iter().filter(|one| self.count(one) > 0).count();
+            counts(list);
+            parts.push(format!("{name}: {hit} of {all}"));
+        }
         let verdicts = self.verdicts.len() as u64;
         if verdicts < VERDICTS_OF_6 {
             never.push("a verdict of kind 6".to_string());

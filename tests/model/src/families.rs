@@ -142,7 +142,7 @@ impl Made {
     /// Runs for the memory of modes: mostly kind 6, CRCs wrong one by one.
     fn modes(&mut self, rng: &mut Rng, frames: usize) {
         let mut context = 0;
-        for _ in 0..frames {
+        for _ in 0..2 * frames {
             let number = rng.of(&[6, 6, 6, 6, 5, 7, 8, 1, 2]);
             // Often right by another context than the one that it stands in.
             let checked_by = if rng.once_in(4) {
@@ -151,7 +151,7 @@ impl Made {
                 context
             };
             let mut body = body(rng, number, self.direction, checked_by);
-            if rng.once_in(3) {
+            if rng.bit() {
                 wrong_crcs(rng, &mut body, number, checked_by);
             }
             context = frame(number, &body).context_after();

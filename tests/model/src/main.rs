@@ -1,5 +1,6 @@
-//! `model compare --calls N --seed S [--only CASE] --client COMMAND..`: compares the library with the model on N calls or a few more. Exit status: 0 no
-//! difference, 1 a difference or something never hit, 2 bad usage, 3 the model breaks its own rules.
+//! `model compare --calls N --seed S [--only CASE] --client COMMAND..`: compares the library with
+//! the model on N calls or a few more. Exit status: 0 no difference, 1 a difference or something
+//! never hit, 2 bad usage, 3 the model breaks its own rules.
 
 mod client;
 mod compare;
@@ -72,7 +73,8 @@ fn compare(options: &Options, client: Client) -> ExitCode {
                 Stop::Difference(text) => (1, format!("DIFFERENCE\n{text}")),
                 Stop::Model(text) => (3, format!("THE MODEL IS WRONG\n{text}")),
             };
-            println!("seed {seed}, case {case}, call {call} of the run (repeat: --seed {seed} --only {case}): {text}");
+            print!("seed {seed}, case {case}, call {call} of the run ");
+            println!("(repeat: --seed {seed} --only {case}): {text}");
             return ExitCode::from(code);
         }
         case += 1;

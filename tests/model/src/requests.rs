@@ -31,10 +31,8 @@ impl Lent {
         let longest = LONGEST - bytes.len();
         bytes.extend(vec![0; rng.of(&[0, 0, 1, 2, 30]).min(longest)]);
         if made.family == Family::Full && rng.bit() {
-            bytes.resize(
-                rng.of(&[LONGEST - 1, LONGEST, LONGEST + 1, LONGEST + 4_096]),
-                0,
-            );
+            let length = rng.of(&[LONGEST - 1, LONGEST, LONGEST + 1, LONGEST + 4_096]);
+            bytes.resize(length, 0);
             bits.truncate(8 * bytes.len());
         }
         let mut borders = made.borders;
@@ -75,9 +73,9 @@ impl Lent {
         let other_way = rng.once_in(8);
         let direction = self.capture.direction ^ usize::from(other_way);
         let length = self.buffer_length(rng, cursor);
-        let fill = rng.next() as u8;
+        let fill = rng.draw() as u8;
         let buffer = match length < 1_000 && rng.bit() {
-            true => (0..length).map(|_| rng.next() as u8).collect(),
+            true => (0..length).map(|_| rng.draw() as u8).collect(),
             false => vec![fill; length],
         };
         Request {
@@ -128,74 +126,6 @@ pub fn twin(rng: &mut Rng, request: &Request) -> Request {
 }
 
 /// Fills the bits from n on with garbage.
-fn garbage(&mut self, rng: &mut Rng) {
-        garbage(rng, &mut self.bytes, self.capture.n());
-    }
-
-    pub fn too_long(&self) -> bool {
-        self.bytes.len() > LONGEST
-    }
-
-    /// A request that no number refuses: any cursor, any count, any buffer.
-    pub fn request(&self, rng: &mut Rng) -> Request {
-        let n = self.capture.n();
-        let position = match rng.below(8) {
-            0 | 1 => 0,
-            2 => rng.below(n + 1),
-            3 => {
-                let p = rng.of(&self.borders);
-                near(rng, p, n)
-            }
-            4 if rng.once_in(4) => n,
-            _ => rng.of(&self.borders),
-        };
-        let cursor = Cursor {
-            position,
-            context: rng.below(6) as u64,
-        };
-        let other_way = rng.once_in(8);
-        let direction = self.capture.direction ^ usize::from(other_way);
-        let length = self.buffer_length(rng, cursor);
-        let fill = rng.next() as u8;
-        let buffer = match length < 1_000 && rng.bit() {
-            true => (0..length).map(|_| rng.next() as u8).collect(),
-            false => vec![fill; length],
-        };
-        Request {
-            capture: self.bytes.clone(),
-            n: n as u64,
-            direction: direction as u64,
-            position: position as u64,
-            context: cursor.context,
-            most: most(rng),
-            buffer,
-        }
-    }
-
-    /// Any length up to 80, one at which a record just fits or just does not, or a large one.
-    fn buffer_length(&self, rng: &mut Rng, cursor: Cursor) -> usize {
-        match rng.below(16) {
-            0..=5 => rng.below(81),
-            6..=10 => {
-                let items = reading(&self.capture, cursor).take(1 + rng.below(6));
-                let total: usize = items.map(|item| record(&item).len()).sum();
-                (total + rng.below(3)).saturating_sub(1)
-            }
-            11..=14 => 81 + rng.below(600),
-            _ if rng.once_in(200) => 1_000_000 + rng.below(1_000_000),
-            _ => rng.below(20_000),
-        }
-    }
-}
-
-/// The same request with other garbage behind n.
-pub fn twin(rng: &mut Rng, request: &Request) -> Request {
-    let mut twin = request.clone();
-    garbage(rng, &mut twin.capture, request.n as usize);
-    twin
-}
-
-/// Fills the bits from n on with garbage.
 fn garbage(rng: &mut Rng, bytes: &mut [u8], n: usize) {
     let whole = rng.of(&[0x00, 0xFF, 0x80]);
     let random = rng.bit();
@@ -229,11 +159,11 @@ pub fn nonsense(rng: &mut Rng, request: &mut Request) {
             2 => *number | 1 << rng.below(64),
             3 => u64::MAX - rng.below(4) as u64,
             4 => rng.of(&[0, 0, 1 << 8, 1 << 16, 1 << 31, 1 << 32, 1 << 61, 1 << 63]),
-            5 => rng.next(),
+            5 => rng.draw(),
             6 => 8 * request.capture.len() as u64 + 1,
             7 => number.wrapping_add(1 + rng.below(8) as u64),
             8 => number.wrapping_neg(),
-            _ => rng.below(10) as u64,
+            _ => rng.below(3) as u64,
         };
     }
 }

@@ -7,11 +7,11 @@ impl Rng {
     pub fn new(seed: u64, case: u64) -> Rng {
         let mut rng = Rng(seed);
         Rng(rng
-            .next()
+            .draw()
             .wrapping_add(case.wrapping_mul(0xD134_2543_DE82_EF95)))
     }
 
-    pub fn next(&mut self) -> u64 {
+    pub fn draw(&mut self) -> u64 {
         self.0 = self.0.wrapping_add(0x9E37_79B9_7F4A_7C15);
         let mut z = self.0;
         z = (z ^ (z >> 30)).wrapping_mul(0xBF58_476D_1CE4_E5B9);
@@ -21,7 +21,7 @@ impl Rng {
 
     /// A number below `end`.
     pub fn below(&mut self, end: usize) -> usize {
-        (self.next() % end as u64) as usize
+        (self.draw() % end as u64) as usize
     }
 
     /// True once in `times`.
@@ -35,7 +35,7 @@ impl Rng {
     }
 
     pub fn bit(&mut self) -> bool {
-        self.next() >> 63 != 0
+        self.draw() >> 63 != 0
     }
 
     pub fn of<T: Copy>(&mut self, list: &[T]) -> T {

@@ -1,0 +1,60 @@
+-- `list::line::put_frame` meets its contract.
+-- Assumes nothing.
+use borrow.Author.Needs.{needs}
+use lib.ListN.{take}
+use Rattle.list.proofs.TextLaws.{line-of-four}
+use Rattle.list.proofs.line.put_frame.Statement.{statement}
+use Rattle.list.proofs.line.put_frame.Tie as tie
+
+slice-aggregate-put : tie.Need-slice-aggregate-put
+slice-aggregate-put c = search needs
+
+put-requires : tie.Need-put-requires
+put-requires c κs = search needs
+
+put-number-requires : tie.Need-put-number-requires
+put-number-requires c κs = search needs
+
+put-number-requires-2 : tie.Need-put-number-requires-2
+put-number-requires-2 c κs = search needs
+
+put-number-requires-3 : tie.Need-put-number-requires-3
+put-number-requires-3 c κs = search needs
+
+put-number-requires-4 : tie.Need-put-number-requires-4
+put-number-requires-4 c κs = search needs
+
+slice-aggregate-put-2 : tie.Need-slice-aggregate-put-2
+slice-aggregate-put-2 c = search needs
+
+put-requires-2 : tie.Need-put-requires-2
+put-requires-2 c κs = search needs
+
+same-length : tie.Need-same-length
+same-length c = search needs
+
+returns : tie.Need-returns
+returns c =
+    let a = c .before .before .before .before .before .before .before .before .before .before .before .before .before .before .before .before .before .before .before .before .before .before .before .before .before .before .before .args in
+    let the-put = c .before .before .before .before .before .before .before .before .before .before .before .before .before .before .before .before .before .before .before .before .before .before .before .put in
+    let the-put-number = c .before .before .before .before .before .before .before .before .before .before .before .before .before .before .before .before .before .before .before .put-number in
+    let the-put-number2 = c .before .before .before .before .before .before .before .before .before .before .before .before .before .before .before .put-number2 in
+    let the-put-number3 = c .before .before .before .before .before .before .before .before .before .before .before .put-number3 in
+    let the-put-number4 = c .before .before .before .before .before .before .before .put-number4 in
+    let the-put2 = c .before .before .put2 in
+    record { within = the-put2 .ensures .1 .within; is = line-of-four 70 (take (the-put .result) (the-put .last .0)) (take (the-put-number .result) (the-put-number .last .0)) (take (the-put-number2 .result) (the-put-number2 .last .0)) (the-put .ensures .1 .is) (take (the-put-number3 .result) (the-put-number3 .last .0)) (take (the-put-number4 .result) (the-put-number4 .last .0)) (take (the-put2 .result) (the-put2 .last .0)) (a .kind) (a .start) (a .tail) (a .verdict) (the-put-number .ensures .1 .is) (the-put-number2 .ensures .1 .is) (the-put-number3 .ensures .1 .is) (the-put-number4 .ensures .1 .is) (the-put2 .ensures .1 .is) }
+
+pub put-frame-spec : {M : Type 1} → statement M
+put-frame-spec =
+    tie.close
+    (tie.spec
+    slice-aggregate-put
+    put-requires
+    put-number-requires
+    put-number-requires-2
+    put-number-requires-3
+    put-number-requires-4
+    slice-aggregate-put-2
+    put-requires-2
+    same-length
+    returns)

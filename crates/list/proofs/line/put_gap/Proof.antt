@@ -1,0 +1,50 @@
+-- `list::line::put_gap` meets its contract.
+-- Assumes nothing.
+use borrow.Author.Needs.{needs}
+use lib.ListN.{take}
+use Rattle.list.proofs.TextLaws.{line-of-two}
+use Rattle.list.proofs.line.put_gap.Statement.{statement}
+use Rattle.list.proofs.line.put_gap.Tie as tie
+
+slice-aggregate-put : tie.Need-slice-aggregate-put
+slice-aggregate-put c = search needs
+
+put-requires : tie.Need-put-requires
+put-requires c κs = search needs
+
+put-number-requires : tie.Need-put-number-requires
+put-number-requires c κs = search needs
+
+put-number-requires-2 : tie.Need-put-number-requires-2
+put-number-requires-2 c κs = search needs
+
+slice-aggregate-put-2 : tie.Need-slice-aggregate-put-2
+slice-aggregate-put-2 c = search needs
+
+put-requires-2 : tie.Need-put-requires-2
+put-requires-2 c κs = search needs
+
+same-length : tie.Need-same-length
+same-length c = search needs
+
+returns : tie.Need-returns
+returns c =
+    let a = c .before .before .before .before .before .before .before .before .before .before .before .before .before .before .before .before .before .before .before .args in
+    let the-put = c .before .before .before .before .before .before .before .before .before .before .before .before .before .before .before .put in
+    let the-put-number = c .before .before .before .before .before .before .before .before .before .before .before .put-number in
+    let the-put-number2 = c .before .before .before .before .before .before .before .put-number2 in
+    let the-put2 = c .before .before .put2 in
+    record { within = the-put2 .ensures .1 .within; is = line-of-two 71 (take (the-put .result) (the-put .last .0)) (take (the-put-number .result) (the-put-number .last .0)) (take (the-put-number2 .result) (the-put-number2 .last .0)) (the-put .ensures .1 .is) (take (the-put2 .result) (the-put2 .last .0)) (a .start) (a .span) (the-put-number .ensures .1 .is) (the-put-number2 .ensures .1 .is) (the-put2 .ensures .1 .is) }
+
+pub put-gap-spec : {M : Type 1} → statement M
+put-gap-spec =
+    tie.close
+    (tie.spec
+    slice-aggregate-put
+    put-requires
+    put-number-requires
+    put-number-requires-2
+    slice-aggregate-put-2
+    put-requires-2
+    same-length
+    returns)
