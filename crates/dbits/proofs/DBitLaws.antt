@@ -1,4 +1,4 @@
--- The table of D bits against the rule of each kind, and the D bits in bytes: how a byte is padded, and which bit is which D bit.
+-- The table of D bits against the rule of each kind, and the D bits in bytes: which bits a byte has, and which bit is which D bit.
 -- Assumes nothing.
 use mathlib.Core.Path.{_≡_, refl, sym, _∙_, ap}
 use mathlib.Core.Logic.{by-cases}
@@ -6,14 +6,14 @@ use mathlib.Core.Bool.{Bool, true, false, cond}
 use mathlib.Core.List.{List, [], _∷_, _++_, map}
 use Prim.Native.Nat.{ℕ, zero, suc, _+_, _*_, _-_, _/_, _%_, _^_, _<_, _≤_}
 use native.Mathlib.Omega.{arith}
-use native.Mathlib.Nat.{not-suc-le-zero, le-of-suc-le-suc, pow-suc, mul-assoc, mul-comm, sub-zero, zero-add, add-zero, mod-eq-of-lt}
+use native.Mathlib.Nat.{not-suc-le-zero, le-of-suc-le-suc, zero-add}
 use native.Mathlib.Decide.{decLt}
 use native.Mathlib.Numerals.{add-one}
 use borrow.Author.Tests.{eq-eqb}
 use lib.Dec.{eqb, lit<}
 use lib.ListN.{length, getD, take, drop, replicate, length-map, length-append, length-drop, drop-of-length-le, List·getD-eq-default}
-use lib.Pow.{shr-shr, shl-lt}
-use lib.Seq.{getD-take, getD-drop, take-nil, take-all, length-take-le}
+use lib.Pow.{shr-shr}
+use lib.Seq.{getD-take, getD-drop, take-all, length-take-le}
 use Rattle.bits.specs.Bit.{bitAt, toN, numberFrom, number, count}
 use Rattle.bits.proofs.CountLaws.{getD-map-count}
 use Rattle.channel.specs.declared.Kind.{Kind}
@@ -24,7 +24,6 @@ use Rattle.channel.specs.Coding.{Word, bitsAt}
 use Rattle.channel.specs.Control.{fromTop}
 use Rattle.channel.proofs.DLaws.{Rule, d-rule}
 use Rattle.word.specs.Below.{Below}
-use Rattle.word.proofs.WordLaws.{field-grows}
 use Rattle.dbits.specs.DBits.{allPlaces, dFrom, dBytes}
 
 -- a kind's part of the table is the list of its D places
@@ -126,48 +125,6 @@ bits-drop g zero ps = refl
 bits-drop g (suc n) [] = refl
 bits-drop g (suc n) (p ∷ ps) = bits-drop g n ps
 
--- n zeros behind a number double it n times
-zeros-behind : (n m a : ℕ) → n ≤ m → numberFrom a (take n (replicate m false)) ≡ a * 2 ^ n
-zeros-behind zero m a h = omega arith
-zeros-behind (suc n) zero a h = absurd (not-suc-le-zero h)
-zeros-behind (suc n) (suc m) a h =
-    let e : 2 * a + 0 ≡ a * 2 = omega arith in
-    zeros-behind n m (2 * a + 0) (le-of-suc-le-suc h)
-    ∙ rw (e, pow-suc, mul-assoc, mul-comm (2 ^ n) 2)
-
--- the first n of some bits with m zeros behind them, as a number: the bits that there are, and the zeros that they leave
-zeros-fill : (bs : List Bool) (n m a : ℕ) → n ≤ length bs + m → numberFrom a (take n (bs ++ replicate m false)) ≡ numberFrom a (take n bs) * 2 ^ (n - length bs)
-zeros-fill [] n m a h = rw (take-nil {A = Bool} n, sub-zero n) (zeros-behind n m a (rw zero-add at h))
-zeros-fill (b ∷ bs) zero m a h = let e : 0 - suc (length bs) ≡ 0 = omega arith in rw e (omega arith)
-zeros-fill (b ∷ bs) (suc n) m a h =
-    let e : suc n - suc (length bs) ≡ n - length bs = omega arith in
-    rw e (zeros-fill bs n m (2 * a + toN b) (omega arith))
-
--- a byte from the top holds its first eight bits, with a zero below them for each that is missing
-pub bytes-pack : (bs : List Bool) → fromTop bs ≡ number (take 8 bs) * 2 ^ (8 - length bs)
-bytes-pack bs = zeros-fill bs 8 8 0 (omega arith)
-
--- bits behind a number of m bits make a number of so many bits more
-number-grows : (bs : List Bool) (a m : ℕ) → a < 2 ^ m → numberFrom a bs < 2 ^ (m + length bs)
-number-grows [] a m h = rw (add-zero m) h
-number-grows (b ∷ bs) a m h =
-    let e : m + suc (length bs) ≡ m + 1 + length bs = omega arith in
-    rw e (number-grows bs (2 * a + toN b) (m + 1) (field-grows a m b (2 * a + toN b) h refl))
-
--- a field of n places has n bits
-number-lt : (g : Word) (ps : List ℕ) (n : ℕ) → length ps ≡ n → number (bitsAt g ps) < 2 ^ n
-number-lt g ps n e =
-    let l : 0 + length (bitsAt g ps) ≡ n = zero-add (length (bitsAt g ps)) ∙ length-map ps g ∙ e in
-    rw l at (number-grows (bitsAt g ps) 0 0 (lit< tt))
-
--- a field of n bits above 8 - n zeros is a byte
-padded-lt : (field n : ℕ) → n ≤ 8 → field < 2 ^ n → field * 2 ^ (8 - n) < 256
-padded-lt field n h l = let e : n + (8 - n) ≡ 8 = omega arith in rw e at (shl-lt n (8 - n) l)
-
--- where eight are left, none is missing
-none-missing : (n s : ℕ) → ¬ (n < s + 8) → 0 ≡ 8 - (n - s)
-none-missing n s h = omega arith
-
 -- the places from s on, at most eight: they begin at s or at the end, and end eight later or at the end
 module _ (ps : List ℕ) (s a e : ℕ) (from : a ≡ s - (s - length ps)) (to : e ≡ s + 8 - (s + 8 - length ps)) where
   -- the lent part has just these
@@ -188,23 +145,6 @@ module _ (ps : List ℕ) (s a e : ℕ) (from : a ≡ s - (s - length ps)) (to : 
       let w : e - s ≡ 8 = omega arith in
       rw w)))
 
-  -- as many are missing to eight as the list is short of
-  eight-left : 8 - (e - a) ≡ 8 - (length ps - s)
-  eight-left =
-      by-cases (decLt (length ps) s)
-      (λ (past : length ps < s).
-      let z : e - a ≡ 0 = omega arith in
-      let w : length ps - s ≡ 0 = omega arith in
-      rw (z, w))
-      (λ (n : ¬ (length ps < s)).
-      let f : a ≡ s = omega arith in
-      rw f
-      (by-cases (decLt (length ps) (s + 8))
-      (λ (short : length ps < s + 8). let w : e ≡ length ps = omega arith in rw w)
-      (λ (m : ¬ (length ps < s + 8)).
-      let w : e - s ≡ 8 = omega arith in
-      rw w (none-missing (length ps) s m))))
-
   -- the lent part has e - a places
   eight-length : length (take (e - a) (drop a ps)) ≡ e - a
   eight-length = let l = length-drop a ps in length-take-le (e - a) (drop a ps) (omega arith)
@@ -222,17 +162,19 @@ module _ (ps : List ℕ) (s a e : ℕ) (from : a ≡ s - (s - length ps)) (to : 
     rw eight-length eight-most,
   )
 
--- byte j of a part, as it is packed: the field of the places from a to e, shifted up by what is missing
-pub byte-of : (g : Word) (ps : List ℕ) (j a e field r : ℕ) → a ≡ 8 * j - (8 * j - length ps) → e ≡ 8 * j + 8 - (8 * j + 8 - length ps) → field ≡ number (bitsAt g (take (e - a) (drop a ps)))
-    → r ≡ field * 2 ^ (8 - (e - a)) % 256 → r ≡ fromTop (drop (8 * j) (bitsAt g ps))
-byte-of g ps j a e field r from to read put =
-    let low : field < 2 ^ (e - a) = rw read (number-lt g (take (e - a) (drop a ps)) (e - a) (eight-length ps (8 * j) a e from to)) in
-    let whole : field * 2 ^ (8 - (e - a)) % 256 ≡ field * 2 ^ (8 - (e - a)) = mod-eq-of-lt (padded-lt field (e - a) (eight-most ps (8 * j) a e from to) low) in
+-- the first n bits, with others behind them, begin as all the bits do
+first-seen : (n : ℕ) (bs zs : List Bool) → take n (take n bs ++ zs) ≡ take n (bs ++ zs)
+first-seen zero bs zs = refl
+first-seen (suc n) [] zs = refl
+first-seen (suc n) (b ∷ bs) zs = ap (λ (t : List Bool). b ∷ t) (first-seen n bs zs)
+
+-- byte j of a part: a byte from the top shows eight bits only, so those of the places lent are those of all from 8 j on
+pub byte-of : (g : Word) (ps : List ℕ) (j a e : ℕ) → a ≡ 8 * j - (8 * j - length ps) → e ≡ 8 * j + 8 - (8 * j + 8 - length ps)
+    → fromTop (bitsAt g (take (e - a) (drop a ps))) ≡ fromTop (drop (8 * j) (bitsAt g ps))
+byte-of g ps j a e from to =
     let bits : bitsAt g (take (e - a) (drop a ps)) ≡ take 8 (drop (8 * j) (bitsAt g ps)) =
     ap (bitsAt g) (part-eight ps (8 * j) a e from to) ∙ bits-take g 8 (drop (8 * j) ps) ∙ ap (take 8) (bits-drop g (8 * j) ps) in
-    let l : length (drop (8 * j) (bitsAt g ps)) ≡ length ps - 8 * j = length-drop (8 * j) (bitsAt g ps) ∙ ap (λ (n : ℕ). n - 8 * j) (length-map ps g) in
-    let d : 8 - (e - a) ≡ 8 - length (drop (8 * j) (bitsAt g ps)) = eight-left ps (8 * j) a e from to ∙ ap (λ (n : ℕ). 8 - n) (sym l) in
-    put ∙ whole ∙ rw (read, bits, d) (sym (bytes-pack (drop (8 * j) (bitsAt g ps))))
+    ap fromTop bits ∙ ap number (first-seen 8 (drop (8 * j) (bitsAt g ps)) (replicate 8 false))
 
 -- a bit is 0 or 1
 toN-lt : (b : Bool) → toN b < 2

@@ -1,11 +1,11 @@
 // The D bits of a frame, by one flat table of places.
-pub mod places;
+mod places;
 
 use crate::places::D_PLACES;
 use channel::Kind;
 ghost use mathlib.Core.Path.{_≡_};
 ghost use mathlib.Core.List.{map};
-ghost use Prim.Native.Nat.{_*_, _-_, _%_, _^_, _≤_, _<_};
+ghost use Prim.Native.Nat.{_*_, _-_, _≤_, _<_};
 ghost use lib.ListN.{length, drop};
 ghost use Rattle.bits.specs.Bit.{bitAt, count};
 ghost use Rattle.channel.specs.Kinds.{dCount};
@@ -15,7 +15,7 @@ ghost use Rattle.word.specs.Below.{Below};
 ghost use Rattle.dbits.specs.DBits.{allPlaces, dFrom, dBytes};
 
 // The table, by value: a const array is built each time it is named, so it is named here alone.
-fn table() -> [u8; 1022]
+pub fn table() -> [u8; 1022]
     ensures { λ r. ⌜ r ≡ allPlaces ⌝ }
 {
     D_PLACES
@@ -38,7 +38,7 @@ pub fn d_count(k: Kind) -> usize
 }
 
 // Where a kind's part of the table begins.
-fn d_from(k: Kind) -> usize
+pub fn d_from(k: Kind) -> usize
     ensures { λ r. ⌜ r ≡ dFrom k ⌝ }
 {
     match k {
@@ -60,14 +60,6 @@ fn least(a: usize, b: usize) -> usize
     if a < b { a } else { b }
 }
 
-// A field of n bits at the top of a byte, above zeros.
-fn padded(field: u32, n: usize) -> u8
-    requires { ⌜ n ≤ 8 ⌝ }
-    ensures { λ r. ⌜ r ≡ field * 2 ^ (8 - n) % 256 ⌝ }
-{
-    ((field << (8 - n)) % 256) as u8
-}
-
 // Byte j of the D bits at the places of a part of the table: eight of them or what is left, padded with zeros.
 fn d_byte(o: [u8; 20], part: &[u8], j: usize) -> u8
     requires { ⌜ Below 160 (now part) × (length (now part) ≤ 151) × (j < 19) ⌝ }
@@ -75,9 +67,7 @@ fn d_byte(o: [u8; 20], part: &[u8], j: usize) -> u8
 {
     let a = least(8 * j, part.len());
     let e = least(8 * j + 8, part.len());
-    let n = e - a;
-    let field = word::packed(o, &part[a..e]);
-    padded(field, n)
+    word::top_byte(o, &part[a..e])
 }
 
 // The D bits at the places of a part of the table in 19 bytes; the bytes behind the last D bit are zero.

@@ -1,4 +1,3 @@
 -- The laws of this crate.
 -- Assumes nothing.
 pub mod CellLaws
-pub mod TextLaws

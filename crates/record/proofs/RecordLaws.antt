@@ -2,15 +2,15 @@
 -- Assumes nothing.
 use mathlib.Core.Path.{_≡_, refl, sym, _∙_, ap}
 use mathlib.Core.List.{List, [], _∷_, _++_, map}
-use Prim.Native.Nat.{ℕ, _+_, _*_, _-_, _/_, _%_, _^_, _<_, _≤_}
-use native.Mathlib.Nat.{sub-zero, div-one}
+use Prim.Native.Nat.{ℕ, _+_, _*_, _/_, _%_, _<_, _≤_}
+use native.Mathlib.Nat.{div-one}
 use native.Mathlib.Numerals.{add-one}
 use native.Mathlib.Omega.{arith}
 use lib.Dec.{lit<}
 use lib.ListN.{length, getD, take, drop, set, length-append, length-drop}
-use lib.Seq.{length-take-le, take-length, take-at, drop-append-add, drop-drop, sets, sets-eq, paste, paste-suc}
+use lib.Seq.{length-take-le, take-at, drop-append-add, drop-drop, sets, sets-eq, paste, paste-suc}
 use Rattle.reading.specs.Reading as reading
-use Rattle.bits.specs.Bit.{bitAt, number, count}
+use Rattle.bits.specs.Bit.{bitAt, count}
 use Rattle.bits.proofs.CountLaws.{length-map-count}
 use Rattle.channel.specs.declared.Kind.{Kind}
 use Rattle.channel.specs.declared.Kind.the-variants.{Speech, Data, Om, Configuration, NoSpeech, Lower, Amr670, Amr740}
@@ -21,7 +21,6 @@ use Rattle.channel.specs.Control.{fromTop, control, extended}
 use Rattle.channel.specs.Frames.{Frame}
 use Rattle.channel.proofs.CutLaws.{control-cut, extended-cut, d-cut}
 use Rattle.dbits.specs.DBits.{dBytes}
-use Rattle.dbits.proofs.DBitLaws.{byte-of}
 use Rattle.frame.specs.declared.coding.Found.{Found}
 use Rattle.frame.specs.declared.coding.Found.the-variants.{Is, Nothing}
 use Rattle.item.specs.declared.Item.{Item}
@@ -72,11 +71,6 @@ size-by Nothing octets start length verdict = refl
 -- the size by what is found is that of the record of the item
 pub size-of : (i : Item) → sizeBy (i .found) ≡ sizeOf (itemOf i)
 size-of i = size-by (i .found) (i .octets) (i .start) (i .length) (i .verdict)
-
--- a field of the bits at some places, shifted up by what is missing to eight, is the byte that has them from the top
-pub top-of : (g : Word) (ps : List ℕ) (field r : ℕ) → length ps ≤ 8 → field ≡ number (bitsAt g ps) → r ≡ field * 2 ^ (8 - length ps) % 256 → r ≡ fromTop (bitsAt g ps)
-top-of g ps field r h read put =
-    byte-of g ps 0 0 (length ps) field r (omega arith) (omega arith) (rw (sub-zero (length ps), take-length ps) read) (rw (sub-zero (length ps)) put)
 
 -- a number in four bytes, as the code divides it
 abbrev four : ℕ → List ℕ

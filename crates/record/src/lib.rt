@@ -5,12 +5,10 @@ use frame::places;
 use item::Item;
 ghost use mathlib.Core.Path.{_≡_};
 ghost use mathlib.Core.List.{_++_, _∷_};
-ghost use Prim.Native.Nat.{_+_, _*_, _-_, _%_, _^_, _≤_};
+ghost use Prim.Native.Nat.{_+_, _≤_};
 ghost use lib.ListN.{length, take, drop};
 ghost use Rattle.bits.specs.Bit.{bitAt};
-ghost use Rattle.channel.specs.Coding.{bitsAt};
-ghost use Rattle.channel.specs.Control.{fromTop, control, extended};
-ghost use Rattle.word.specs.Below.{Below};
+ghost use Rattle.channel.specs.Control.{control, extended};
 ghost use Rattle.dbits.specs.DBits.{dBytes};
 ghost use Rattle.item.specs.Item.{itemOf};
 ghost use Rattle.record.specs.Record.{wide, dLength, sizeOf, recordOf};
@@ -42,36 +40,19 @@ pub fn size(found: Found) -> usize
     }
 }
 
-// A field of n bits at the top of a byte, above zeros.
-fn padded(field: u32, n: usize) -> u8
-    requires { ⌜ n ≤ 8 ⌝ }
-    ensures { λ r. ⌜ r ≡ field * 2 ^ (8 - n) % 256 ⌝ }
-{
-    ((field << (8 - n)) % 256) as u8
-}
-
-// The bits at some places in a byte, from the top, the rest zero.
-fn top_byte(o: [u8; 20], at: &[u8]) -> u8
-    requires { ⌜ Below 160 (now at) × (length (now at) ≤ 8) ⌝ }
-    ensures { λ r. ⌜ r ≡ fromTop (bitsAt (bitAt o) (now (at .entry))) ⌝ }
-{
-    let field = word::packed(o, at);
-    padded(field, at.len())
-}
-
 // The control byte of a frame: its C bits.
 fn control_byte(o: [u8; 20], k: Kind) -> u8
     ensures { λ r. ⌜ r ≡ control (bitAt o) k ⌝ }
 {
     match k {
-        Kind::Speech => top_byte(o, &CONTROL_PLACES),
-        Kind::Data => top_byte(o, &HR_CONTROL_PLACES),
-        Kind::Om => top_byte(o, &HR_CONTROL_PLACES),
-        Kind::Configuration => top_byte(o, &HR_CONTROL_PLACES),
-        Kind::NoSpeech => top_byte(o, &places::LOW_C),
-        Kind::Lower => top_byte(o, &places::LOW_C),
-        Kind::Amr670 => top_byte(o, &places::AMR_C),
-        Kind::Amr740 => top_byte(o, &places::AMR_C),
+        Kind::Speech => word::top_byte(o, &CONTROL_PLACES),
+        Kind::Data => word::top_byte(o, &HR_CONTROL_PLACES),
+        Kind::Om => word::top_byte(o, &HR_CONTROL_PLACES),
+        Kind::Configuration => word::top_byte(o, &HR_CONTROL_PLACES),
+        Kind::NoSpeech => word::top_byte(o, &places::LOW_C),
+        Kind::Lower => word::top_byte(o, &places::LOW_C),
+        Kind::Amr670 => word::top_byte(o, &places::AMR_C),
+        Kind::Amr740 => word::top_byte(o, &places::AMR_C),
     }
 }
 
@@ -80,7 +61,7 @@ fn extended_byte(o: [u8; 20], k: Kind) -> u8
     ensures { λ r. ⌜ r ≡ extended (bitAt o) k ⌝ }
 {
     match k {
-        Kind::Speech => top_byte(o, &EXTENDED_PLACES),
+        Kind::Speech => word::top_byte(o, &EXTENDED_PLACES),
         Kind::Data => 0,
         Kind::Om => 248,
         Kind::Configuration => 0,

@@ -1,20 +1,22 @@
--- A turn of each loop over a list of places: what is left of the list, from what is held so far. Counts of ones of a packed field.
+-- A turn of each loop over a list of places: what is left of the list, from what is held so far. A packed field: its ones, and the byte that it tops.
 -- Assumes nothing.
-use mathlib.Core.Path.{_≡_, refl, sym, _∙_, ap, ap₂}
+use mathlib.Core.Path.{_≡_, refl, sym, _∙_, ap}
 use mathlib.Core.Bool.{Bool, true, false, not, _&&_, Bool·beq}
-use mathlib.Core.List.{List, [], _∷_, map}
-use Prim.Native.Nat.{ℕ, zero, suc, _+_, _*_, _/_, _%_, _^_, _<_, _≤_}
+use mathlib.Core.List.{List, [], _∷_, _++_}
+use Prim.Native.Nat.{ℕ, zero, suc, _+_, _*_, _-_, _/_, _%_, _^_, _<_, _≤_}
 use native.Mathlib.Omega.{arith}
-use native.Mathlib.Nat.{zero-add, pow-suc}
+use native.Mathlib.Nat.{zero-add, add-zero, sub-zero, pow-suc, mul-assoc, mul-comm, mod-eq-of-lt, not-suc-le-zero, le-of-suc-le-suc}
 use native.Mathlib.Numerals.{add-one}
 use borrow.Author.Tests.{not-true, not-false}
 use lib.Count as Count
-use lib.Dec.{eqb}
-use lib.ListN.{length, getD, drop, drop-of-length-le}
+use lib.Dec.{eqb, lit<}
+use lib.ListN.{length, getD, take, drop, replicate, length-map, drop-of-length-le}
+use lib.Pow.{shl-lt}
 use lib.Seq.{drop-cons}
 use Rattle.bits.specs.Bit.{toN, numberFrom, number}
 use Rattle.channel.specs.Poly.{_⊕_, Rem}
 use Rattle.channel.specs.Coding.{Word, bitsAt, all, ones, odd}
+use Rattle.channel.specs.Control.{fromTop}
 use Rattle.channel.specs.Crc.{push, remFrom, rem, right}
 
 module _ (ps : List ℕ) (j : ℕ) where
@@ -114,3 +116,41 @@ ones-packed bs = ones-from bs 0 ∙ zero-add (ones bs)
 -- so its parity is theirs
 pub odd-packed : (field : ℕ) (r : Bool) (bs : List Bool) → r ≡ eqb (Count.ones field % 2) 1 → field ≡ number bs → r ≡ odd bs
 odd-packed field r bs h e = h ∙ rw (e, ones-packed bs)
+
+-- n zeros behind a number double it n times
+zeros-behind : (n m a : ℕ) → n ≤ m → numberFrom a (take n (replicate m false)) ≡ a * 2 ^ n
+zeros-behind zero m a h = omega arith
+zeros-behind (suc n) zero a h = absurd (not-suc-le-zero h)
+zeros-behind (suc n) (suc m) a h =
+    let e : 2 * a + 0 ≡ a * 2 = omega arith in
+    zeros-behind n m (2 * a + 0) (le-of-suc-le-suc h)
+    ∙ rw (e, pow-suc, mul-assoc, mul-comm (2 ^ n) 2)
+
+-- at most n bits, filled up with zeros to n, as a number: that of the bits, doubled for each zero
+zeros-fill : (bs : List Bool) (n m a : ℕ) → length bs ≤ n → n ≤ length bs + m → numberFrom a (take n (bs ++ replicate m false)) ≡ numberFrom a bs * 2 ^ (n - length bs)
+zeros-fill [] n m a l h = rw sub-zero (zeros-behind n m a (rw zero-add at h))
+zeros-fill (b ∷ bs) zero m a l h = absurd (not-suc-le-zero l)
+zeros-fill (b ∷ bs) (suc n) m a l h =
+    let e : suc n - suc (length bs) ≡ n - length bs = omega arith in
+    rw e (zeros-fill bs n m (2 * a + toN b) (le-of-suc-le-suc l) (omega arith))
+
+-- bits behind a number of m bits make a number of so many bits more
+number-grows : (bs : List Bool) (a m : ℕ) → a < 2 ^ m → numberFrom a bs < 2 ^ (m + length bs)
+number-grows [] a m h = rw (add-zero m) h
+number-grows (b ∷ bs) a m h =
+    let e : m + suc (length bs) ≡ m + 1 + length bs = omega arith in
+    rw e (number-grows bs (2 * a + toN b) (m + 1) (field-grows a m b (2 * a + toN b) h refl))
+
+-- a field of at most eight bits above the zeros that are missing is a byte
+padded-lt : (bs : List Bool) → length bs ≤ 8 → number bs * 2 ^ (8 - length bs) < 256
+padded-lt bs h =
+    let e : length bs + (8 - length bs) ≡ 8 = omega arith in
+    rw e at (shl-lt (length bs) (8 - length bs) (rw zero-add at (number-grows bs 0 0 (lit< tt))))
+
+-- a field of the bits at some places, shifted up by what is missing to eight, is the byte that has them from the top
+pub top-of : (g : Word) (ps : List ℕ) (field r : ℕ) → length ps ≤ 8 → field ≡ number (bitsAt g ps) → r ≡ field * 2 ^ (8 - length ps) % 256 → r ≡ fromTop (bitsAt g ps)
+top-of g ps field r h read put =
+    let bs = bitsAt g ps in
+    let l : length bs ≡ length ps = length-map ps g in
+    let few : length bs ≤ 8 = omega arith in
+    put ∙ rw (read, sym l, mod-eq-of-lt (padded-lt bs few)) (sym (zeros-fill bs 8 8 0 few (omega arith)))

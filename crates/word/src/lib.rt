@@ -1,12 +1,13 @@
 // A frame's bits at lent places: one loop each for fixed bits, for a packed field and for a CRC, whatever the list and its length.
 ghost use mathlib.Core.Path.{_≡_};
 ghost use mathlib.Core.Bool.{Bool·beq};
-ghost use Prim.Native.Nat.{_+_, _*_, _%_, _≤_, _<_};
+ghost use Prim.Native.Nat.{_+_, _*_, _-_, _%_, _^_, _≤_, _<_};
 ghost use lib.Count.{ones};
 ghost use lib.Dec.{eqb};
 ghost use lib.ListN.{length, getD};
 ghost use Rattle.bits.specs.Bit.{bitAt, toN, number};
 ghost use Rattle.channel.specs.Coding.{bitsAt, all};
+ghost use Rattle.channel.specs.Control.{fromTop};
 ghost use Rattle.channel.specs.Crc.{right};
 ghost use Rattle.word.specs.Below.{Below};
 
@@ -50,6 +51,23 @@ fn with_bit(field: u32, b: bool) -> u32
     ensures { λ r. ⌜ r ≡ 2 * field + toN b ⌝ }
 {
     if b { 2 * field + 1 } else { 2 * field }
+}
+
+// A field of n bits at the top of a byte, above zeros.
+fn padded(field: u32, n: usize) -> u8
+    requires { ⌜ n ≤ 8 ⌝ }
+    ensures { λ r. ⌜ r ≡ field * 2 ^ (8 - n) % 256 ⌝ }
+{
+    ((field << (8 - n)) % 256) as u8
+}
+
+// The bits at the places in a byte, from the top, the rest zero.
+pub fn top_byte(o: [u8; 20], places: &[u8]) -> u8
+    requires { ⌜ Below 160 (now places) × (length (now places) ≤ 8) ⌝ }
+    ensures { λ r. ⌜ r ≡ fromTop (bitsAt (bitAt o) (now (places .entry))) ⌝ }
+{
+    let field = packed(o, places);
+    padded(field, places.len())
 }
 
 // Whether a packed field has an odd number of ones, by the language's own count.

@@ -1,5 +1,6 @@
 -- `dbits::d_byte` meets its contract: the places lent are the eight from 8 j on, or what is left of them.
 -- Assumes nothing.
+use mathlib.Core.Path.{_∙_}
 use borrow.Author.Needs.{needs}
 use Rattle.bits.specs.Bit.{bitAt}
 use Rattle.dbits.proofs.DBitLaws.{eight-below, byte-of}
@@ -21,34 +22,28 @@ add-least c = search needs
 least-requires-2 : tie.Need-least-requires-2
 least-requires-2 c κs = search needs
 
-sub-n : tie.Need-sub-n
-sub-n c = search needs
+sub-top-byte : tie.Need-sub-top-byte
+sub-top-byte c = search needs
 
-sub-packed : tie.Need-sub-packed
-sub-packed c = search needs
+part-top-byte-start : tie.Need-part-top-byte-start
+part-top-byte-start c = search needs
 
-part-packed-start : tie.Need-part-packed-start
-part-packed-start c = search needs
+part-top-byte-end : tie.Need-part-top-byte-end
+part-top-byte-end c = search needs
 
-part-packed-end : tie.Need-part-packed-end
-part-packed-end c = search needs
-
-packed-requires : tie.Need-packed-requires
-packed-requires c κs =
+top-byte-requires : tie.Need-top-byte-requires
+top-byte-requires c κs =
     let s = c .before .before .before .before in
     let f = c .before .before .least in
     let t = c .before .least2 in
     eight-below (s .args .part .now) _ (f .result) (t .result) (f .ensures) (t .ensures) (s .pre .0)
 
-padded-requires : tie.Need-padded-requires
-padded-requires c κs = search needs
-
 returns : tie.Need-returns
 returns c =
-    let a = c .before .before .before .before .before .before .args in
-    let f = c .before .before .before .before .least in
-    let t = c .before .before .before .least2 in
-    byte-of (bitAt (a .o)) (a .part .now) (a .j) (f .result) (t .result) (c .before .packed .result) (c .padded .result) (f .ensures) (t .ensures) (c .before .packed .ensures) (c .padded .ensures)
+    let a = c .before .before .before .before .before .args in
+    let f = c .before .before .before .least in
+    let t = c .before .before .least2 in
+    c .top-byte .ensures ∙ byte-of (bitAt (a .o)) (a .part .now) (a .j) (f .result) (t .result) (f .ensures) (t .ensures)
 
 pub d-byte-spec : {M : Type 1} → statement M
 d-byte-spec =
@@ -59,10 +54,8 @@ d-byte-spec =
     mul-least-2
     add-least
     least-requires-2
-    sub-n
-    sub-packed
-    part-packed-start
-    part-packed-end
-    packed-requires
-    padded-requires
+    sub-top-byte
+    part-top-byte-start
+    part-top-byte-end
+    top-byte-requires
     returns)

@@ -1,11 +1,11 @@
 -- `word::all_are` meets its contract: the test over all the places is the test over those that are left.
 -- Assumes nothing.
-use mathlib.Core.Path.{_≡_, refl, sym, _∙_, ap}
-use mathlib.Core.Bool.{Bool, true, false, _&&_, Bool·beq}
-use Prim.Native.Nat.{_+_, _-_, _≤_, _<_}
+use mathlib.Core.Path.{_≡_, refl, sym, _∙_}
+use mathlib.Core.Bool.{Bool·beq}
+use Prim.Native.Nat.{_-_, _≤_}
 use native.Mathlib.Omega.{arith}
 use borrow.Author.Needs.{needs}
-use lib.ListN.{length, getD, drop}
+use lib.ListN.{length, drop}
 use Rattle.bits.specs.Bit.{bitAt}
 use Rattle.channel.specs.Coding.{all}
 use Rattle.word.proofs.WordLaws.{all-stops, all-goes, all-end}

@@ -1,9 +1,8 @@
 -- `word::bit_at` meets its contract: a place below 160 lies in the twenty octets.
 -- Assumes nothing.
 use native.Mathlib.Omega.{arith}
-use Prim.Native.Nat.{_<_}
 use mathlib.Core.Path.{_≡_}
-use lib.ListN.{length, getD}
+use lib.ListN.{length}
 use borrow.Author.Needs.{needs}
 use Rattle.word.proofs.bit_at.Statement.{statement}
 use Rattle.word.proofs.bit_at.Tie as tie

@@ -1,14 +1,13 @@
 -- `word::crc_right` meets its contract: the remainder of all the bits is that of those that are left, from the three bools held.
 -- Assumes nothing.
-use mathlib.Core.Path.{_≡_, refl, sym, _∙_, ap}
-use mathlib.Core.Bool.{Bool, true, false, _&&_}
-use Prim.Native.Nat.{_+_, _-_, _≤_, _<_}
+use mathlib.Core.Path.{_≡_, refl}
+use Prim.Native.Nat.{_-_, _≤_}
 use native.Mathlib.Omega.{arith}
 use borrow.Author.Needs.{needs}
-use lib.ListN.{length, getD, drop}
+use lib.ListN.{length, drop}
 use Rattle.bits.specs.Bit.{bitAt}
 use Rattle.channel.specs.Coding.{bitsAt}
-use Rattle.channel.specs.Crc.{remFrom, rem, right}
+use Rattle.channel.specs.Crc.{remFrom, rem}
 use Rattle.word.proofs.WordLaws.{held, rem-goes, rem-right}
 use Rattle.word.proofs.crc_right.Statement.{statement}
 use Rattle.word.proofs.crc_right.Tie as tie

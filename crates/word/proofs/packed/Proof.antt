@@ -1,13 +1,13 @@
 -- `word::packed` meets its contract: the number of all the bits is that of those that are left, behind the field held.
 -- Assumes nothing.
-use mathlib.Core.Path.{_≡_, refl, sym, _∙_, ap}
-use Prim.Native.Nat.{_+_, _*_, _-_, _^_, _≤_, _<_}
+use mathlib.Core.Path.{_≡_, refl, sym, _∙_}
+use Prim.Native.Nat.{_-_, _^_, _≤_, _<_}
 use native.Mathlib.Omega.{arith}
 use borrow.Author.Needs.{needs}
 use lib.Dec.{lit<}
-use lib.ListN.{length, getD, drop}
+use lib.ListN.{length, drop}
 use lib.Pow.{pow-mono}
-use Rattle.bits.specs.Bit.{bitAt, toN, numberFrom, number}
+use Rattle.bits.specs.Bit.{bitAt, numberFrom, number}
 use Rattle.channel.specs.Coding.{bitsAt}
 use Rattle.word.proofs.WordLaws.{number-goes, number-end, field-grows}
 use Rattle.word.proofs.packed.Statement.{statement}

@@ -2,7 +2,6 @@
 -- Assumes nothing.
 use mathlib.Core.Path.{sym, _∙_}
 use Prim.Native.Nat.{_+_, _-_}
-use native.Mathlib.Omega.{arith}
 use borrow.Author.Needs.{needs}
 use Rattle.channel.specs.Places.{crcPlaces, c6Places}
 use Rattle.drawings.specs.declared.cell.Cell.the-variants.{Crc, C}
@@ -30,7 +29,7 @@ returns : tie.Need-returns
 returns c =
     let a = c .before .before .before .before .args in
     let i = c .before .index-in in
-    sym (named-in crcPlaces (λ j. Crc (2 - j)) (a .p) (i .result) (named c6Places (λ j. C (j + 6)) (a .p) (a .other)) (i .ensures) (omega arith))
+    sym (named-in crcPlaces (λ j. Crc (2 - j)) (a .p) (i .result) (named c6Places (λ j. C (j + 6)) (a .p) (a .other)) (i .ensures) (c .if1 .taken))
 
 slice-aggregate-index-in : tie.Need-slice-aggregate-index-in
 slice-aggregate-index-in c = search needs
@@ -46,18 +45,14 @@ returns-2 c =
     let a = c .before .before .before .before .before .before .before .args in
     let i = c .before .before .before .before .index-in in
     let j = c .before .index-in2 in
-    sym
-    (named-out crcPlaces (λ j. Crc (2 - j)) (a .p) (i .result) (named c6Places (λ j. C (j + 6)) (a .p) (a .other)) (i .ensures) (omega arith)
-    ∙ named-in c6Places (λ j. C (j + 6)) (a .p) (j .result) (a .other) (j .ensures) (omega arith))
+    sym (named-out crcPlaces (λ j. Crc (2 - j)) (a .p) (i .result) (named c6Places (λ j. C (j + 6)) (a .p) (a .other)) (i .ensures) (c .before .before .before .if1 .left) ∙ named-in c6Places (λ j. C (j + 6)) (a .p) (j .result) (a .other) (j .ensures) (c .if2 .taken))
 
 returns-3 : tie.Need-returns-3
 returns-3 c =
     let a = c .before .before .before .before .before .before .before .args in
     let i = c .before .before .before .before .index-in in
     let j = c .before .index-in2 in
-    sym
-    (named-out crcPlaces (λ j. Crc (2 - j)) (a .p) (i .result) (named c6Places (λ j. C (j + 6)) (a .p) (a .other)) (i .ensures) (omega arith)
-    ∙ named-out c6Places (λ j. C (j + 6)) (a .p) (j .result) (a .other) (j .ensures) (omega arith))
+    sym (named-out crcPlaces (λ j. Crc (2 - j)) (a .p) (i .result) (named c6Places (λ j. C (j + 6)) (a .p) (a .other)) (i .ensures) (c .before .before .before .if1 .left) ∙ named-out c6Places (λ j. C (j + 6)) (a .p) (j .result) (a .other) (j .ensures) (c .if2 .left))
 
 pub crc-cell-spec : {M : Type 1} → statement M
 crc-cell-spec =

@@ -2,7 +2,6 @@
 -- Assumes nothing.
 use mathlib.Core.Path.{sym}
 use Prim.Native.Nat.{_+_}
-use native.Mathlib.Omega.{arith}
 use borrow.Author.Needs.{needs}
 use Rattle.channel.specs.Places.{xcPlaces}
 use Rattle.drawings.specs.declared.cell.Cell.the-variants.{Xc}
@@ -23,13 +22,13 @@ returns : tie.Need-returns
 returns c =
     let a = c .before .before .before .args in
     let i = c .before .index-in in
-    sym (named-in xcPlaces (λ j. Xc (j + 1)) (a .p) (i .result) (a .other) (i .ensures) (omega arith))
+    sym (named-in xcPlaces (λ j. Xc (j + 1)) (a .p) (i .result) (a .other) (i .ensures) (c .if1 .taken))
 
 returns-2 : tie.Need-returns-2
 returns-2 c =
     let a = c .before .before .before .args in
     let i = c .before .index-in in
-    sym (named-out xcPlaces (λ j. Xc (j + 1)) (a .p) (i .result) (a .other) (i .ensures) (omega arith))
+    sym (named-out xcPlaces (λ j. Xc (j + 1)) (a .p) (i .result) (a .other) (i .ensures) (c .if1 .left))
 
 pub xc-cell-spec : {M : Type 1} → statement M
 xc-cell-spec =
