@@ -11,13 +11,13 @@ use Rattle.channel.specs.Checks.{checks}
 use Rattle.channel.specs.Verdict.{verdictOf, starts}
 use Rattle.channel.specs.Control.{control, extended}
 use Rattle.channel.specs.Frames.{captureOf, rules, beginning}
-use Rattle.channel.specs.Examples.{Question, crc, parity, reading, passing, ones, threes, line, Holds, Example, AllHold, table}
+use Rattle.channel.specs.Examples.{Question, crc, parity, reading, passing, oneBit, threeBits, line, Holds, Example, AllHold, table}
 use Rattle.channel.proofs.FrameLaws.{lookAt, sound}
 
 -- what is computed for a question
 abbrev computed : Question → List (List ℕ)
-computed (crc bs) = passing leaves111 bs threes
-computed (parity bs) = passing odd bs ones
+computed (crc bs) = passing leaves111 bs threeBits
+computed (parity bs) = passing odd bs oneBit
 computed (reading s n d) = map line (read rules (captureOf s n d) (sound (captureOf s n d)) beginning)
 
 holds : (q : Question) (answer : List (List ℕ)) → computed q ≡ answer → Holds q answer

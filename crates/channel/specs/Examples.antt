@@ -39,11 +39,11 @@ passing test bs [] = []
 passing test bs (w ∷ ws) = let r = passing test bs ws in cond (test (bs ++ w)) (map toN w ∷ r) r
 
 -- the words of one bit, and those of three
-abbrev pub ones : List (List Bool)
-ones = (false ∷ []) ∷ (true ∷ []) ∷ []
+abbrev pub oneBit : List (List Bool)
+oneBit = (false ∷ []) ∷ (true ∷ []) ∷ []
 
-abbrev pub threes : List (List Bool)
-threes = map (λ w. false ∷ false ∷ w) ones ++ map (λ w. false ∷ true ∷ w) ones ++ map (λ w. true ∷ false ∷ w) ones ++ map (λ w. true ∷ true ∷ w) ones
+abbrev pub threeBits : List (List Bool)
+threeBits = map (λ w. false ∷ false ∷ w) oneBit ++ map (λ w. false ∷ true ∷ w) oneBit ++ map (λ w. true ∷ false ∷ w) oneBit ++ map (λ w. true ∷ true ∷ w) oneBit
 
 -- an item as numbers: 0, start, length of a gap; kind, start, tail, verdict, control, extended of a frame
 abbrev pub line : Item Frame → List ℕ
@@ -52,8 +52,8 @@ line (frame f) = kindNo (f .kind) ∷ f .start ∷ f .tail ∷ f .verdict ∷ co
 
 -- an answer is the one: of all CRCs the only right one, of all parity bits the only right one, the items of the reading from the beginning
 abbrev pub Holds : Question → List (List ℕ) → Type 0
-Holds (crc bs) answer = passing leaves111 bs threes ≡ answer
-Holds (parity bs) answer = passing odd bs ones ≡ answer
+Holds (crc bs) answer = passing leaves111 bs threeBits ≡ answer
+Holds (parity bs) answer = passing odd bs oneBit ≡ answer
 Holds (reading s n d) answer = (xs : List (Item Frame)) × Reading rules (captureOf s n d) beginning xs × (map line xs ≡ answer)
 
 pub record Example : Type 0 where
