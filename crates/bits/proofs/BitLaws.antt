@@ -18,12 +18,12 @@ use Rattle.bits.specs.Bit.{bitAt, toN, numberFrom, count, octetOf, twent
 use Rattle.bits.proofs.CountLaws.{length-map-count, getD-map-count, map-count-same}
 
 -- a bit is 0 or 1
-toN-lt : (b : Bool) → toN b < 2
+pub toN-lt : (b : Bool) → toN b < 2
 toN-lt true = lit< tt
 toN-lt false = lit< tt
 
 -- a bit is told by its number
-toN-one : (b : Bool) → eqb (toN b) 1 ≡ b
+pub toN-one : (b : Bool) → eqb (toN b) 1 ≡ b
 toN-one true = refl
 toN-one false = refl
 

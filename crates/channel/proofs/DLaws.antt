@@ -12,8 +12,8 @@ use Rattle.bits.specs.Bit.{count}
 use Rattle.channel.specs.declared.Kind.{Kind}
 use Rattle.channel.specs.Kinds.{kinds, dCount, bodyOf}
 use Rattle.channel.specs.Places.{upto, elem, taken, without, dPlaces}
-use Rattle.channel.proofs.BoolLaws.{ands, and-both}
-use Rattle.channel.proofs.FrameLaws.{body-some}
+use Rattle.channel.proofs.BoolLaws.{ands, and-both, and-false}
+use Rattle.channel.proofs.FrameLaws.{body-low}
 
 -- each kind has as many D bits as the table of kinds says, 1,022 in all
 pub d-counts : map (λ (k : Kind). length (dPlaces k)) kinds ≡ map dCount kinds
@@ -40,10 +40,6 @@ module _ (ts : List ℕ) where
       go : (b : Bool) → Rises (suc a) rest → Rises a (cond b rest (a ∷ rest))
       go true r = rises-lower a (suc a) rest (omega arith) r
       go false r = (omega arith, r)
-
-  and-false : (b : Bool) → b && false ≡ false
-  and-false true = refl
-  and-false false = refl
 
   -- what is left of a list are those of it that are not in the other
   elem-without : (p : ℕ) (is : List ℕ) → elem p (without ts is) ≡ elem p is && not (elem p ts)
@@ -93,7 +89,7 @@ pub record Rule (k : Kind) (ps : List ℕ) : Type 0 where
 pub d-rule : (k : Kind) → Rule k (dPlaces k)
 unfolding dPlaces
 d-rule k =
-    let b = body-some k in
+    let b = body-low k in
     record {
       rise = rises (taken k) (suc (bodyOf k - 1) - 0) 0;
       free =

@@ -206,16 +206,26 @@ module _ (w : Capture) (x p : ℕ) where
           let r : k ≡ f .kind = due-one k (f .kind) (first-passes (dueAt w x p) kinds k e) a in
           ap (λ (j : Kind). some (frameAt w x p j)) r ∙ ap some (due-test w x p f h .1)
 
--- a body has at least one bit
-pub body-some : (k : Kind) → 0 < bodyOf k
-body-some Speech = omega arith
-body-some Data = omega arith
-body-some Om = omega arith
-body-some Configuration = omega arith
-body-some NoSpeech = omega arith
-body-some Lower = omega arith
-body-some Amr670 = omega arith
-body-some Amr740 = omega arith
+-- a body has 158 bits at least, and 160 at most
+pub body-low : (k : Kind) → 158 ≤ bodyOf k
+body-low Speech = omega arith
+body-low Data = omega arith
+body-low Om = omega arith
+body-low Configuration = omega arith
+body-low NoSpeech = omega arith
+body-low Lower = omega arith
+body-low Amr670 = omega arith
+body-low Amr740 = omega arith
+
+pub body-high : (k : Kind) → bodyOf k ≤ 160
+body-high Speech = omega arith
+body-high Data = omega arith
+body-high Om = omega arith
+body-high Configuration = omega arith
+body-high NoSpeech = omega arith
+body-high Lower = omega arith
+body-high Amr670 = omega arith
+body-high Amr740 = omega arith
 
 -- a kind 8 never starts a run
 pub no-740 : (g : Word) → starts g Amr740 ≡ true → ⊥
@@ -252,7 +262,7 @@ sound w =
       look = lookAt w;
       look-due = look-due w;
       due-look = due-look w;
-      later = λ x p f h. omega (arith, h .stands .at, body-some (f .kind));
+      later = λ x p f h. omega (arith, h .stands .at, body-low (f .kind));
       within = λ x p f h. omega (arith, h .stands .at, h .stands .tail .within);
       starts-due =
           λ x p f h.

@@ -22,6 +22,7 @@ use Rattle.channel.specs.Kinds.{dCount, bodyOf}
 use Rattle.channel.specs.Places.{elem, dPlaces}
 use Rattle.channel.specs.Coding.{Word, bitsAt}
 use Rattle.channel.specs.Control.{fromTop}
+use Rattle.channel.proofs.FrameLaws.{body-high}
 use Rattle.channel.proofs.DLaws.{Rule, d-rule}
 use Rattle.word.specs.Below.{Below}
 use Rattle.dbits.specs.DBits.{allPlaces, dFrom, dBytes}
@@ -76,17 +77,6 @@ part-end Lower = lit< tt
 part-end Amr670 = lit< tt
 part-end Amr740 = lit< tt
 
--- no body is longer than a frame
-body-le : (k : Kind) → bodyOf k ≤ 160
-body-le Speech = lit< tt
-body-le Data = lit< tt
-body-le Om = lit< tt
-body-le Configuration = lit< tt
-body-le NoSpeech = lit< tt
-body-le Lower = lit< tt
-body-le Amr670 = lit< tt
-body-le Amr740 = lit< tt
-
 -- a number is equal to itself, as a test
 eqb-self : (n : ℕ) → eqb n n ≡ true
 eqb-self n = eq-eqb n n refl
@@ -105,7 +95,7 @@ entry-elem (p ∷ ps) (suc j) h = go (eqb (getD ps j 0) p) (entry-elem ps j (le-
 pub places-below : (k : Kind) → Below 160 (dPlaces k)
 places-below k j h =
     let f = d-rule k .free (getD (dPlaces k) j 0) (entry-elem (dPlaces k) j h) in
-    omega (arith, body-le k)
+    omega (arith, body-high k)
 
 -- the part of the table that is lent for a kind
 pub part-is : (k : Kind) (places : List ℕ) (from n : ℕ) → places ≡ allPlaces → from ≡ dFrom k → n ≡ dCount k → take (from + n - from) (drop from places) ≡ dPlaces k

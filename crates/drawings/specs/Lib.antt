@@ -1,3 +1,4 @@
 -- The definitions that the contracts of this crate cite.
 -- Assumes nothing.
 pub mod Cells
+pub mod Text

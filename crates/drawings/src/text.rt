@@ -1,4 +1,7 @@
-// The drawings as text.
+// The drawings as text. What is written cannot be promised, so the work is in functions that make the text.
+ghost use mathlib.Core.Path.{_≡_};
+ghost use Prim.Native.Nat.{_+_, _%_};
+ghost use Rattle.drawings.specs.Text.{letteredOf, nameOf};
 use crate::cell::Cell;
 use crate::cell::cell_at;
 use channel::Direction;
@@ -6,12 +9,16 @@ use channel::Kind;
 use libc::STDOUT_FILENO;
 
 // The last decimal digit of a number.
-fn digit(n: usize) -> u8 {
+fn digit(n: usize) -> u8
+    ensures { λ r. ⌜ r ≡ 48 + n % 10 ⌝ }
+{
     b'0' + (n % 10) as u8
 }
 
 // Two letters and a number below 1,000, flush right in five columns.
-fn lettered(first: u8, second: u8, n: usize) -> [u8; 5] {
+fn lettered(first: u8, second: u8, n: usize) -> [u8; 5]
+    ensures { λ r. ⌜ r ≡ letteredOf first second n ⌝ }
+{
     if n < 10 {
         return [b' ', b' ', first, second, digit(n)];
     }
@@ -22,7 +29,9 @@ fn lettered(first: u8, second: u8, n: usize) -> [u8; 5] {
 }
 
 // What a bit is called, flush right in five columns.
-fn name(c: Cell) -> [u8; 5] {
+fn name(c: Cell) -> [u8; 5]
+    ensures { λ r. ⌜ r ≡ nameOf c ⌝ }
+{
     match c {
         Cell::Zero => [b' ', b' ', b' ', b' ', b'0'],
         Cell::One => [b' ', b' ', b' ', b' ', b'1'],

@@ -9,6 +9,7 @@ use borrow.Author.Tests.{eq-eqb, ne-eqb, eqb-true}
 use lib.Dec.{T, eqb, ltb, ltb→lt}
 use lib.ListN.{length, getD}
 use Rattle.bits.specs.Bit.{toN, number, count}
+use Rattle.bits.proofs.BitLaws.{toN-lt, toN-one}
 use Rattle.channel.specs.declared.Direction.{Direction}
 use Rattle.channel.specs.declared.Direction.the-variants.{Uplink, Downlink}
 use Rattle.channel.specs.declared.Pattern.{Pattern}
@@ -18,7 +19,7 @@ use Rattle.channel.specs.Kinds.{patternOf}
 use Rattle.channel.specs.declared.Kind.the-variants.{Speech, Data, Om, Configuration, NoSpeech, Lower, Amr670, Amr740}
 use Rattle.channel.specs.Places.{elem, cPlaces, xcPlaces}
 use Rattle.channel.specs.Coding.{Word, bitsAt, all, odd, fixed, c1to3, c4to5, c4, c4Coded, hrCoded, xcCoded, speechXc, coded, isBody}
-use Rattle.channel.proofs.BoolLaws.{all-at, and-both}
+use Rattle.channel.proofs.BoolLaws.{all-at, and-both, and-false, never}
 use Rattle.channel.proofs.DLaws.{elem-count}
 use Rattle.channel.proofs.FrameLaws.{onlyPattern, one-pattern, one-body}
 use Rattle.word.specs.Below.{Below}
@@ -110,37 +111,25 @@ down-number v h = below-all 32 (λ v. elem v (speechXc Downlink)) (λ v. cond (e
 no-speech-number : (v : ℕ) → v < 8 → elem v (0b100 ∷ 0b101 ∷ []) ≡ eqb (v / 2) 2
 no-speech-number v h = below-all 8 (λ v. elem v (0b100 ∷ 0b101 ∷ [])) (λ v. eqb (v / 2) 2) refl v h
 
-bit-lt : (b : Bool) → toN b < 2
-bit-lt true = omega arith
-bit-lt false = omega arith
-
-bit-is : (b : Bool) → eqb (toN b) 1 ≡ b
-bit-is true = refl
-bit-is false = refl
-
 -- parts of a field of five bits
 module _ (a b c d e : Bool) where
   five-top : number (a ∷ b ∷ c ∷ d ∷ e ∷ []) / 4 ≡ number (a ∷ b ∷ c ∷ [])
-  five-top = omega (arith, bit-lt d, bit-lt e)
+  five-top = omega (arith, toN-lt d, toN-lt e)
 
   five-fourth : eqb (number (a ∷ b ∷ c ∷ d ∷ e ∷ []) / 2 % 2) 1 ≡ d
-  five-fourth = let f : number (a ∷ b ∷ c ∷ d ∷ e ∷ []) / 2 % 2 ≡ toN d = omega (arith, bit-lt d, bit-lt e) in rw f (bit-is d)
+  five-fourth = let f : number (a ∷ b ∷ c ∷ d ∷ e ∷ []) / 2 % 2 ≡ toN d = omega (arith, toN-lt d, toN-lt e) in rw f (toN-one d)
 
   five-low : number (a ∷ b ∷ c ∷ d ∷ e ∷ []) % 4 ≡ number (d ∷ e ∷ [])
-  five-low = omega (arith, bit-lt d, bit-lt e)
+  five-low = omega (arith, toN-lt d, toN-lt e)
 
   three-lt : number (a ∷ b ∷ c ∷ []) < 8
-  three-lt = omega (arith, bit-lt a, bit-lt b, bit-lt c)
+  three-lt = omega (arith, toN-lt a, toN-lt b, toN-lt c)
 
   six-top : (f : Bool) → number (a ∷ b ∷ c ∷ d ∷ e ∷ f ∷ []) / 2 ≡ number (a ∷ b ∷ c ∷ d ∷ e ∷ [])
-  six-top f = omega (arith, bit-lt f)
+  six-top f = omega (arith, toN-lt f)
 
   five-lt : number (a ∷ b ∷ c ∷ d ∷ e ∷ []) < 32
-  five-lt = omega (arith, bit-lt a, bit-lt b, bit-lt c, bit-lt d, bit-lt e)
-
-and-false : (b : Bool) → b && false ≡ false
-and-false true = refl
-and-false false = refl
+  five-lt = omega (arith, toN-lt a, toN-lt b, toN-lt c, toN-lt d, toN-lt e)
 
 pub and-not : (a b : Bool) → b ≡ false → a && b ≡ false
 and-not a b h = rw h (and-false a)
@@ -249,9 +238,6 @@ kind-in d g t Nothing f h = λ k. go k (fixed g (patternOf k)) refl
 
 pub kind-nowhere : (d : Direction) (g : Word) → ((t : Pattern) → fixed g t ≡ false) → KindOf d g Nothing
 kind-nowhere d g h k = rw (h (patternOf k))
-
-never : true ≡ false → ⊥
-never e = let z : _≡_ {A = ℕ} 0 1 = cc in omega arith
 
 -- no second answer fits
 pub kind-one : (d : Direction) (g : Word) (r s : Found) → KindOf d g r → KindOf d g s → r ≡ s

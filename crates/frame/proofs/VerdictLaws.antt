@@ -10,6 +10,7 @@ use borrow.Author.Tests.{eq-eqb, ne-eqb}
 use lib.Dec.{eqb}
 use lib.ListN.{length, getD, List·getD-eq-default}
 use Rattle.bits.specs.Bit.{toN}
+use Rattle.bits.proofs.BitLaws.{toN-lt}
 use Rattle.channel.specs.declared.Pattern.the-variants.{Low}
 use Rattle.channel.specs.declared.Kind.{Kind}
 use Rattle.channel.specs.declared.Kind.the-variants.{Lower}
@@ -63,13 +64,9 @@ pub mode-own : (x : ℕ) (g : Word) (own : ℕ) → own ≡ ownMode g → (own �
 mode-own x g own e h = rw (ne-eqb (ownMode g) 0 (λ z. h (e ∙ z))) e
 
 -- one bit for each wrong CRC
-pub wrong-le : (b : Bool) → toN b ≤ 1
-wrong-le true = omega arith
-wrong-le false = omega arith
-
 wrongs-lt : (g : Word) (cs : List (List ℕ)) → wrongs g cs < 2 ^ length cs
 wrongs-lt g [] = omega arith
-wrongs-lt g (ps ∷ cs) = rw pow-suc (omega (arith, wrongs-lt g cs, wrong-le (not (right g ps))))
+wrongs-lt g (ps ∷ cs) = rw pow-suc (omega (arith, wrongs-lt g cs, toN-lt (not (right g ps))))
 
 pub lower-lt : (g : Word) (mode : ℕ) → length (checksLower mode) ≡ 4 → wrongs g (checksLower mode) < 16
 lower-lt g mode e = rw e at (wrongs-lt g (checksLower mode))

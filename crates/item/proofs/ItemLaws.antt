@@ -1,12 +1,10 @@
 -- A cursor moved over an item that is held.
 -- Assumes nothing.
 use mathlib.Core.Path.{_≡_, refl, sym, _∙_, ap}
-use Prim.Native.Nat.{ℕ, _+_, _≤_}
-use native.Mathlib.Omega.{arith}
+use Prim.Native.Nat.{ℕ, _+_}
 use Rattle.reading.specs.Reading.{over}
 use Rattle.bits.specs.Bit.{bitAt}
 use Rattle.channel.specs.declared.Kind.{Kind}
-use Rattle.channel.specs.declared.Kind.the-variants.{Speech, Data, Om, Configuration, NoSpeech, Lower, Amr670, Amr740}
 use Rattle.channel.specs.Kinds.{bodyOf}
 use Rattle.channel.specs.Verdict.{afterOf}
 use Rattle.channel.specs.Frames.{rules}
@@ -15,17 +13,6 @@ use Rattle.frame.specs.declared.coding.Found.the-variants.{Is, Nothing}
 use Rattle.item.specs.declared.Item.{Item}
 use Rattle.item.specs.declared.Cursor.{Cursor}
 use Rattle.item.specs.Item.{itemOf, cursorOf}
-
--- a body has 160 bits at most
-pub body-le : (k : Kind) → bodyOf k ≤ 160
-body-le Speech = omega arith
-body-le Data = omega arith
-body-le Om = omega arith
-body-le Configuration = omega arith
-body-le NoSpeech = omega arith
-body-le Lower = omega arith
-body-le Amr670 = omega arith
-body-le Amr740 = omega arith
 
 -- the cursor behind a frame, and behind a gap
 module _ (c r : Cursor) (i : Item) where

@@ -15,15 +15,8 @@ use lib.ListN.{length, getD, drop, set, replicate, length-set, drop-of-length-le
 use lib.Pow.{pow-pos, pow-add, shr-lt, shr-shr, high, low, field, mod-mod-pow}
 use lib.Seq.{drop-cons, getD-set-same, getD-set-other}
 use Rattle.bits.specs.Bit.{bitAt, toN, count}
+use Rattle.bits.proofs.BitLaws.{toN-lt, toN-one}
 use Rattle.put.specs.Put.{putIn, putBit, putBits}
-
-bit-lt : (b : Bool) → toN b < 2
-bit-lt true = omega arith
-bit-lt false = omega arith
-
-bit-is : (b : Bool) → eqb (toN b) 1 ≡ b
-bit-is true = refl
-bit-is false = refl
 
 -- a byte stays a byte
 putIn-lt : (d k x b : ℕ) → x < 2 ^ (suc d + k) → b < 2 → putIn x k b < 2 ^ (suc d + k)
@@ -79,7 +72,7 @@ pub put-at : (s : List ℕ) (p : ℕ) (b : Bool) → p < 8 * length s → bitAt 
 unfolding putBit
 put-at s p b h =
     let i : p / 8 < length s = omega arith in
-    rw (getD-set-same s (p / 8) (putIn (getD s (p / 8) 0) (7 - p % 8) (toN b)) 0 i, put-same (getD s (p / 8) 0) (7 - p % 8) (toN b) (bit-lt b)) (bit-is b)
+    rw (getD-set-same s (p / 8) (putIn (getD s (p / 8) 0) (7 - p % 8) (toN b)) 0 i, put-same (getD s (p / 8) 0) (7 - p % 8) (toN b) (toN-lt b)) (toN-one b)
 
 off-digit : (s : List ℕ) (p q v : ℕ) → p / 8 < length s → ((7 - q % 8 ≡ 7 - p % 8 → ⊥) → v / 2 ^ (7 - q % 8) % 2 ≡ getD s (p / 8) 0 / 2 ^ (7 - q % 8) % 2) → (q ≡ p → ⊥)
     → getD (set s (p / 8) v) (q / 8) 0 / 2 ^ (7 - q % 8) % 2 ≡ getD s (q / 8) 0 / 2 ^ (7 - q % 8) % 2
@@ -93,7 +86,7 @@ pub put-off : (s : List ℕ) (p : ℕ) (b : Bool) (q : ℕ) → p < 8 * length s
 unfolding putBit
 put-off s p b q h ne =
     ap (λ (n : ℕ). eqb n 1)
-    (off-digit s p q (putIn (getD s (p / 8) 0) (7 - p % 8) (toN b)) (omega arith) (put-apart (getD s (p / 8) 0) (7 - p % 8) (toN b) (7 - q % 8) (bit-lt b)) ne)
+    (off-digit s p q (putIn (getD s (p / 8) 0) (7 - p % 8) (toN b)) (omega arith) (put-apart (getD s (p / 8) 0) (7 - p % 8) (toN b) (7 - q % 8) (toN-lt b)) ne)
 
 pub length-put : (s : List ℕ) (p : ℕ) (b : Bool) → length (putBit s p b) ≡ length s
 unfolding putBit

@@ -22,9 +22,9 @@ use Rattle.channel.specs.Places.{elem, zerosOf, onesOf}
 use Rattle.channel.specs.Coding.{Word, wordAt, all, fixed}
 use Rattle.channel.specs.Verdict.{starts}
 use Rattle.channel.specs.Frames.{Capture, captureOf, Frame, rules}
-use Rattle.channel.proofs.BoolLaws.{ands, and-l, and-r, all-at, zero-at, one-at}
+use Rattle.channel.proofs.BoolLaws.{never, and-l, and-r, all-at, zero-at, one-at}
 use Rattle.channel.proofs.DLaws.{elem-count}
-use Rattle.channel.proofs.FrameLaws.{no-740}
+use Rattle.channel.proofs.FrameLaws.{no-740, body-low}
 use Rattle.frame.specs.declared.coding.Found.the-variants.{Is, Nothing}
 use Rattle.item.specs.declared.Item.{Item}
 use Rattle.item.specs.Item.{frameOf}
@@ -60,19 +60,6 @@ starts-synced g Lower h = refl
 starts-synced g Amr670 h = refl
 starts-synced g Amr740 h = absurd (no-740 g h)
 
-body-long : (k : Kind) → 158 ≤ bodyOf k
-body-long Speech = omega arith
-body-long Data = omega arith
-body-long Om = omega arith
-body-long Configuration = omega arith
-body-long NoSpeech = omega arith
-body-long Lower = omega arith
-body-long Amr670 = omega arith
-body-long Amr740 = omega arith
-
-never : true ≡ false → ⊥
-never e = let z : _≡_ {A = ℕ} 0 1 = cc in omega arith
-
 module _ (w : Capture) (q : ℕ) where
   -- a frame that starts a run at q begins so
   module _ (f : Frame) (h : Starts rules w q f) where
@@ -82,7 +69,7 @@ module _ (w : Capture) (q : ℕ) where
     bit-of : (i : ℕ) → i < 158 → f .body i ≡ w .bits (q + i)
     bit-of i l =
         ap (λ (g : Word). g i) (h .stands .bits)
-        ∙ ap (λ (b : Bool). b && w .bits (q + i)) (lt-ltb i (bodyOf (f .kind)) (omega (arith, body-long (f .kind))))
+        ∙ ap (λ (b : Bool). b && w .bits (q + i)) (lt-ltb i (bodyOf (f .kind)) (omega (arith, body-low (f .kind))))
 
     first-zero : (i : ℕ) → i < 8 → w .bits (q + i) ≡ false
     first-zero i l =
@@ -105,7 +92,7 @@ module _ (w : Capture) (q : ℕ) where
             (λ (e : ¬ (j ≡ 0)). rw (ne-eqb j 0 e) (first-zero (8 - j) (omega arith)))
 
     start-fits : q + 158 ≤ w .n
-    start-fits = omega (arith, h .stands .before, body-long (f .kind))
+    start-fits = omega (arith, h .stands .before, body-low (f .kind))
 
   -- so nothing starts where one of them differs
   pub none-differs : (j : ℕ) (b : Bool) → j < 9 → b ≡ w .bits (q + getD sync j 0) → not (Bool·beq b (eqb j 0)) ≡ true → (f : Frame) → Starts rules w q f → ⊥

@@ -16,19 +16,16 @@ use Rattle.channel.specs.Kinds.{bodyOf, leastTail}
 use Rattle.channel.specs.Coding.{Word, wordAt, isBody}
 use Rattle.channel.specs.Verdict.{verdictOf, starts, startsBy, follows, allowed}
 use Rattle.channel.specs.Frames.{Capture, captureOf, Frame, Tail, Due}
+use Rattle.channel.proofs.BoolLaws.{never}
 use Rattle.channel.proofs.TailLaws.{tail-one}
-use Rattle.channel.proofs.FrameLaws.{body-cut, one-body}
+use Rattle.channel.proofs.FrameLaws.{body-cut, one-body, body-high}
 use Rattle.channel.proofs.CutLaws.{verdict-cut}
 use Rattle.frame.specs.declared.coding.Found.{Found}
 use Rattle.frame.specs.declared.coding.Found.the-variants.{Is, Nothing}
 use Rattle.frame.specs.Found.{KindOf}
 use Rattle.item.specs.declared.Item.{Item}
 use Rattle.item.specs.Item.{frameOf}
-use Rattle.item.proofs.ItemLaws.{body-le}
 use Rattle.reader.specs.Seen.{Seen}
-
-never : true ≡ false → ⊥
-never e = let z : _≡_ {A = ℕ} 0 1 = cc in omega arith
 
 -- whether a word is a body does not change where it is cut behind the body
 uncut : (d : Direction) (g : Word) (k : Kind) → isBody d (wordAt g 0 (bodyOf k)) k ≡ isBody d g k
@@ -59,7 +56,7 @@ module _ (f : ℕ → Bool) (n : ℕ) (d : Direction) (x p : ℕ) (o : List ℕ)
       go i true e =
           let l : i < bodyOf k = ltb-true i (bodyOf k) e in
           let m : ltb (p + i) n ≡ true = lt-ltb (p + i) n (omega arith) in
-          let t : bitAt (twenty (bitsFrom f n p)) i ≡ ltb (p + i) n && f (p + i) = twenty-bit (bitsFrom f n p) i (omega (arith, body-le k)) in
+          let t : bitAt (twenty (bitsFrom f n p)) i ≡ ltb (p + i) n && f (p + i) = twenty-bit (bitsFrom f n p) i (omega (arith, body-high k)) in
           ap g (zero-add i) ∙ ap (λ (s : List ℕ). bitAt s i) octets ∙ t ∙ ap (λ (c : Bool). c && f (p + i)) m
 
   -- what is due has its body in the octets

@@ -12,6 +12,7 @@ use lib.Dec.{eqb, ltb}
 use lib.ListN.{length, getD, take, length-append, length-take}
 use lib.Seq.{ext-getD, getD-take}
 use Rattle.bits.specs.Bit.{bitAt, toN, number}
+use Rattle.bits.proofs.BitLaws.{toN-lt}
 use Rattle.channel.specs.declared.Direction.{Direction}
 use Rattle.channel.specs.declared.Pattern.{Pattern}
 use Rattle.channel.specs.declared.Pattern.the-variants.{Hr, Low, P670, P740}
@@ -94,17 +95,17 @@ odd-last bs true false a b =
 odd-last bs false true a b =
     absurd (omega (arith, ones-last bs true, ones-last bs false, eqb-true (ones (bs ++ (false ∷ [])) % 2) 1 a, eqb-true (ones (bs ++ (true ∷ [])) % 2) 1 b))
 
-toN-one : (x y : Bool) → toN x ≡ toN y → x ≡ y
-toN-one true true e = refl
-toN-one false false e = refl
-toN-one true false e = absurd (omega arith)
-toN-one false true e = absurd (omega arith)
+bit-one : (x y : Bool) → toN x ≡ toN y → x ≡ y
+bit-one true true e = refl
+bit-one false false e = refl
+bit-one true false e = absurd (omega arith)
+bit-one false true e = absurd (omega arith)
 
 -- a byte tells the bits at its top
 top-one : (bs cs : List Bool) → length bs ≡ length cs → length bs ≤ 8 → fromTop bs ≡ fromTop cs → bs ≡ cs
 top-one bs cs l h e =
     ext-getD false bs cs l
-    (λ i m. toN-one (getD bs i false) (getD cs i false) (sym (fromTop-bit bs i (omega arith)) ∙ ap (λ (n : ℕ). n / 2 ^ (7 - i) % 2) e ∙ fromTop-bit cs i (omega arith)))
+    (λ i m. bit-one (getD bs i false) (getD cs i false) (sym (fromTop-bit bs i (omega arith)) ∙ ap (λ (n : ℕ). n / 2 ^ (7 - i) % 2) e ∙ fromTop-bit cs i (omega arith)))
 
 length-bits : (g : Word) (ps : List ℕ) → length (bitsAt g ps) ≡ length ps
 length-bits g [] = refl
@@ -245,20 +246,16 @@ module _ (g h : Word) where
               go zero l e = sym e
               go (suc j) l e = absurd (omega arith)
 
-      bit-le : (b : Bool) → toN b ≤ 1
-      bit-le true = omega arith
-      bit-le false = omega arith
-
       one : (b : Bool) → toN b ≡ 1 → b ≡ true
       one true e = refl
       one false e = absurd (omega arith)
 
       at : (j : ℕ) → j < 5 → f (getD (take 5 xcPlaces) j 0) ≡ true
-      at zero l = one (f 14) (omega (arith, value, bit-le (f 14), bit-le (f 15), bit-le (f 18), bit-le (f 19), bit-le (f 20)))
-      at (suc zero) l = one (f 15) (omega (arith, value, bit-le (f 14), bit-le (f 15), bit-le (f 18), bit-le (f 19), bit-le (f 20)))
-      at (suc (suc zero)) l = one (f 18) (omega (arith, value, bit-le (f 14), bit-le (f 15), bit-le (f 18), bit-le (f 19), bit-le (f 20)))
-      at (suc (suc (suc zero))) l = one (f 19) (omega (arith, value, bit-le (f 14), bit-le (f 15), bit-le (f 18), bit-le (f 19), bit-le (f 20)))
-      at (suc (suc (suc (suc zero)))) l = one (f 20) (omega (arith, value, bit-le (f 14), bit-le (f 15), bit-le (f 18), bit-le (f 19), bit-le (f 20)))
+      at zero l = one (f 14) (omega (arith, value, toN-lt (f 14), toN-lt (f 15), toN-lt (f 18), toN-lt (f 19), toN-lt (f 20)))
+      at (suc zero) l = one (f 15) (omega (arith, value, toN-lt (f 14), toN-lt (f 15), toN-lt (f 18), toN-lt (f 19), toN-lt (f 20)))
+      at (suc (suc zero)) l = one (f 18) (omega (arith, value, toN-lt (f 14), toN-lt (f 15), toN-lt (f 18), toN-lt (f 19), toN-lt (f 20)))
+      at (suc (suc (suc zero))) l = one (f 19) (omega (arith, value, toN-lt (f 14), toN-lt (f 15), toN-lt (f 18), toN-lt (f 19), toN-lt (f 20)))
+      at (suc (suc (suc (suc zero)))) l = one (f 20) (omega (arith, value, toN-lt (f 14), toN-lt (f 15), toN-lt (f 18), toN-lt (f 19), toN-lt (f 20)))
       at (suc (suc (suc (suc (suc j))))) l = absurd (omega arith)
 
   nowhere : (i : ℕ) → elem i [] ≡ true → g i ≡ h i

@@ -14,6 +14,7 @@ use lib.ListN.{length, getD, take, drop, replicate, length-map, drop-of-length-l
 use lib.Pow.{shl-lt}
 use lib.Seq.{drop-cons}
 use Rattle.bits.specs.Bit.{toN, numberFrom, number}
+use Rattle.bits.proofs.BitLaws.{toN-lt}
 use Rattle.channel.specs.Poly.{_⊕_, Rem}
 use Rattle.channel.specs.Coding.{Word, bitsAt, all, ones, odd}
 use Rattle.channel.specs.Control.{fromTop}
@@ -77,17 +78,24 @@ pub rem-right : (g : Word) (ps : List ℕ) (j : ℕ) (a b c : Bool) → length p
 unfolding right
 rem-right g ps j a b c h so-far = ap (λ (r : Rem). r .r2 && r .r1 && r .r0) (sym (so-far ∙ rem-end ps j g (held a b c) h))
 
+-- the ways out of the division
+module _ (a b c d : Bool) (e : a && b && c ≡ d) where
+  pub left-111 : a ≡ true → b ≡ true → c ≡ d
+  left-111 p q = rw (p, q) at e
+
+  pub left-10 : a ≡ true → b ≡ false → false ≡ d
+  left-10 p q = rw (p, q) at e
+
+  pub left-0 : a ≡ false → false ≡ d
+  left-0 p = rw p at e
+
 -- a bit read and put behind the field
 pub number-goes : (g : Word) (ps : List ℕ) (j field : ℕ) (b : Bool) (next : ℕ) → j < length ps → number (bitsAt g ps) ≡ numberFrom field (bitsAt g (drop j ps)) → b ≡ g (getD ps j 0) → next ≡ 2 * field + toN b
     → number (bitsAt g ps) ≡ numberFrom next (bitsAt g (drop (j + 1) ps))
 number-goes g ps j field b next h so-far read put = rw (put, read) (so-far ∙ number-turn ps j g field h)
 
 pub field-grows : (field j : ℕ) (b : Bool) (next : ℕ) → field < 2 ^ j → next ≡ 2 * field + toN b → next < 2 ^ (j + 1)
-field-grows field j b next h put = rw (add-one, pow-suc) (omega (arith, bit-lt b))
-  where
-    bit-lt : (b : Bool) → toN b < 2
-    bit-lt true = omega arith
-    bit-lt false = omega arith
+field-grows field j b next h put = rw (add-one, pow-suc) (omega (arith, toN-lt b))
 
 -- a bit behind a field: its digits
 bit-last : (a : ℕ) (b : Bool) → Count.ones (2 * a + toN b) ≡ Count.ones a + toN b

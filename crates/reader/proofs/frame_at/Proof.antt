@@ -5,7 +5,7 @@ use Prim.Native.Nat.{ℕ, _+_}
 use native.Mathlib.Omega.{arith}
 use Rattle.bits.specs.Bit.{bitAt}
 use Rattle.channel.specs.Frames.{captureOf, Tail}
-use Rattle.item.proofs.ItemLaws.{body-le}
+use Rattle.channel.proofs.FrameLaws.{body-high}
 use Rattle.reader.proofs.SeenLaws.{none-of-no-kind, none-past, none-refused, none-short, seen-due, seen-nothing, kind-is, kind-no}
 use borrow.Author.Needs.{needs}
 use Rattle.reader.proofs.frame_at.Statement.{statement}
@@ -24,7 +24,7 @@ body-requires : tie.Need-body-requires
 body-requires c κs = search needs
 
 add-behind : tie.Need-add-behind
-add-behind c = omega (arith, c .body .ensures, body-le (c .before .before .k .given .0 .0))
+add-behind c = omega (arith, c .body .ensures, body-high (c .before .before .k .given .0 .0))
 
 no-frame-requires : tie.Need-no-frame-requires
 no-frame-requires c κs = search needs

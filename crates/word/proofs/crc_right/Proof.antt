@@ -7,8 +7,8 @@ use borrow.Author.Needs.{needs}
 use lib.ListN.{length, drop}
 use Rattle.bits.specs.Bit.{bitAt}
 use Rattle.channel.specs.Coding.{bitsAt}
-use Rattle.channel.specs.Crc.{remFrom, rem}
-use Rattle.word.proofs.WordLaws.{held, rem-goes, rem-right}
+use Rattle.channel.specs.Crc.{remFrom, rem, right}
+use Rattle.word.proofs.WordLaws.{held, rem-goes, rem-right, left-111, left-10, left-0}
 use Rattle.word.proofs.crc_right.Statement.{statement}
 use Rattle.word.proofs.crc_right.Tie as tie
 
@@ -40,19 +40,19 @@ returns : tie.Need-returns Inv-loop μ-loop
 returns c =
     let a = c .before .before .before .before .before .args in
     let i = c .before .before .before .loop in
-    rw (c .before .if1 .taken, c .if2 .taken) at (rem-right (bitAt (a .o)) (a .places .now) (i .j) (i .r2) (i .r1) (i .r0) (omega arith) (i .inv .2))
+    left-111 (i .r2) (i .r1) (i .r0) (right (bitAt (a .o)) (a .places .now)) (rem-right (bitAt (a .o)) (a .places .now) (i .j) (i .r2) (i .r1) (i .r0) (omega arith) (i .inv .2)) (c .before .if1 .taken) (c .if2 .taken)
 
 returns-2 : tie.Need-returns-2 Inv-loop μ-loop
 returns-2 c =
     let a = c .before .before .before .before .before .args in
     let i = c .before .before .before .loop in
-    rw (c .before .if1 .taken, c .if2 .left) at (rem-right (bitAt (a .o)) (a .places .now) (i .j) (i .r2) (i .r1) (i .r0) (omega arith) (i .inv .2))
+    left-10 (i .r2) (i .r1) (i .r0) (right (bitAt (a .o)) (a .places .now)) (rem-right (bitAt (a .o)) (a .places .now) (i .j) (i .r2) (i .r1) (i .r0) (omega arith) (i .inv .2)) (c .before .if1 .taken) (c .if2 .left)
 
 returns-3 : tie.Need-returns-3 Inv-loop μ-loop
 returns-3 c =
     let a = c .before .before .before .before .args in
     let i = c .before .before .loop in
-    rw (c .if1 .left) at (rem-right (bitAt (a .o)) (a .places .now) (i .j) (i .r2) (i .r1) (i .r0) (omega arith) (i .inv .2))
+    left-0 (i .r2) (i .r1) (i .r0) (right (bitAt (a .o)) (a .places .now)) (rem-right (bitAt (a .o)) (a .places .now) (i .j) (i .r2) (i .r1) (i .r0) (omega arith) (i .inv .2)) (c .if1 .left)
 
 pub crc-right-spec : {M : Type 1} → statement M
 crc-right-spec =

@@ -1,84 +1,64 @@
 -- `frame::verdict::after` meets its contract: a kind 6 leaves the mode that its own C bits name.
 -- Assumes nothing.
 use mathlib.Core.Path.{_≡_, refl, sym, _∙_, ap}
+use Prim.Native.Nat.{ℕ, _+_}
 use native.Mathlib.Omega.{arith}
 use Rattle.bits.specs.Bit.{bitAt}
 use borrow.Author.Needs.{needs}
 use Rattle.frame.proofs.verdict.after.Statement.{statement}
 use Rattle.frame.proofs.verdict.after.Tie as tie
-use Rattle.frame.proofs.verdict.after.Reads as reads
-use Rattle.frame.proofs.verdict.after.Lts as lts
-use Rattle.frame.proofs.verdict.modes_in.Reads as modes-in-reads
 
--- src/verdict.rt:140:25
 enum-told : tie.Need-enum-told
 enum-told c = search needs
 
--- src/verdict.rt:141:23
 enum-told-2 : tie.Need-enum-told-2
 enum-told-2 c = search needs
 
--- src/verdict.rt:142:21
 enum-told-3 : tie.Need-enum-told-3
 enum-told-3 c = search needs
 
--- src/verdict.rt:143:32
 enum-told-4 : tie.Need-enum-told-4
 enum-told-4 c = search needs
 
--- src/verdict.rt:144:27
 enum-told-5 : tie.Need-enum-told-5
 enum-told-5 c = search needs
 
--- src/verdict.rt:146:17
 enum-told-6 : tie.Need-enum-told-6
 enum-told-6 c = search needs
 
--- src/verdict.rt:146:17
 modes-in-requires : tie.Need-modes-in-requires
 modes-in-requires c κs = search needs
 
--- src/verdict.rt:147:13
 add-result : tie.Need-add-result
 add-result c = search needs
 
--- src/verdict.rt:149:25
 enum-told-7 : tie.Need-enum-told-7
 enum-told-7 c = search needs
 
--- src/verdict.rt:150:25
 enum-told-8 : tie.Need-enum-told-8
 enum-told-8 c = search needs
 
--- src/verdict.rt:136:1
 returns : tie.Need-returns
 returns c = rw (c .enum-told .given .1)
 
--- src/verdict.rt:136:1
 returns-2 : tie.Need-returns-2
 returns-2 c = rw (c .enum-told2 .given .1)
 
--- src/verdict.rt:136:1
 returns-3 : tie.Need-returns-3
 returns-3 c = rw (c .enum-told3 .given .1)
 
--- src/verdict.rt:136:1
 returns-4 : tie.Need-returns-4
 returns-4 c = rw (c .enum-told4 .given .1)
 
--- src/verdict.rt:136:1
 returns-5 : tie.Need-returns-5
 returns-5 c = rw (c .enum-told5 .given .1)
 
--- src/verdict.rt:136:1
 returns-6 : tie.Need-returns-6
-returns-6 c = rw (c .before .before .enum-told6 .given .1, c .before .modes-in .ensures .named)
+returns-6 c = rw (c .before .before .enum-told6 .given .1) (ap (λ (m : ℕ). 2 + m) (c .before .modes-in .ensures .named))
 
--- src/verdict.rt:136:1
 returns-7 : tie.Need-returns-7
 returns-7 c = rw (c .enum-told7 .given .1)
 
--- src/verdict.rt:136:1
 returns-8 : tie.Need-returns-8
 returns-8 c = rw (c .enum-told8 .given .1)
 

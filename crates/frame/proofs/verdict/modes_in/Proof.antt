@@ -7,20 +7,13 @@ use Rattle.frame.proofs.VerdictLaws.{own-le, context-le, mode-context, 
 use borrow.Author.Needs.{needs}
 use Rattle.frame.proofs.verdict.modes_in.Statement.{statement}
 use Rattle.frame.proofs.verdict.modes_in.Tie as tie
-use Rattle.frame.proofs.verdict.modes_in.Reads as reads
-use Rattle.frame.proofs.verdict.modes_in.Lts as lts
-use Rattle.frame.proofs.verdict.context_mode.Reads as context-mode-reads
-use Rattle.frame.proofs.verdict.own_mode.Reads as own-mode-reads
 
--- src/verdict.rt:63:9
 own-mode-requires : tie.Need-own-mode-requires
 own-mode-requires c κs = search needs
 
--- src/verdict.rt:65:13
 context-mode-requires : tie.Need-context-mode-requires
 context-mode-requires c κs = search needs
 
--- src/verdict.rt:66:9
 returns : tie.Need-returns
 returns c =
     record {
@@ -30,7 +23,6 @@ returns c =
       checked-few = omega (arith, c .context-mode .ensures, context-le (c .before .before .before .args .x));
     }
 
--- src/verdict.rt:60:1
 returns-2 : tie.Need-returns-2
 returns-2 c =
     record {

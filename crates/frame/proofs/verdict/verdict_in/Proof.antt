@@ -14,127 +14,94 @@ use Rattle.frame.proofs.VerdictLaws.{one-verdict, lower-verdict}
 use borrow.Author.Needs.{needs}
 use Rattle.frame.proofs.verdict.verdict_in.Statement.{statement}
 use Rattle.frame.proofs.verdict.verdict_in.Tie as tie
-use Rattle.frame.proofs.verdict.verdict_in.Reads as reads
-use Rattle.frame.proofs.verdict.verdict_in.Lts as lts
-use Rattle.frame.proofs.verdict.lower_verdict.Reads as lower-verdict-reads
-use Rattle.frame.proofs.verdict.modes_in.Reads as modes-in-reads
-use Rattle.frame.proofs.verdict.wrong.Reads as wrong-reads
-use Rattle.word.proofs.crc_right.Reads as crc-right-reads
 
--- src/verdict.rt:121:50
 enum-told : tie.Need-enum-told
 enum-told c = search needs
 
--- src/verdict.rt:121:50
 slice-aggregate-crc-right : tie.Need-slice-aggregate-crc-right
 slice-aggregate-crc-right c = search needs
 
--- src/verdict.rt:121:31
 crc-right-requires : tie.Need-crc-right-requires
 unfolding dPlaces checks
 crc-right-requires c κs = listed-below 160 (getD (checks 0 Speech) 0 []) tt
 
--- src/verdict.rt:121:25
 wrong-requires : tie.Need-wrong-requires
 wrong-requires c κs = search needs
 
--- src/verdict.rt:122:23
 enum-told-2 : tie.Need-enum-told-2
 enum-told-2 c = search needs
 
--- src/verdict.rt:123:21
 enum-told-3 : tie.Need-enum-told-3
 enum-told-3 c = search needs
 
--- src/verdict.rt:124:32
 enum-told-4 : tie.Need-enum-told-4
 enum-told-4 c = search needs
 
--- src/verdict.rt:125:27
 enum-told-5 : tie.Need-enum-told-5
 enum-told-5 c = search needs
 
--- src/verdict.rt:127:17
 enum-told-6 : tie.Need-enum-told-6
 enum-told-6 c = search needs
 
--- src/verdict.rt:127:17
 modes-in-requires : tie.Need-modes-in-requires
 modes-in-requires c κs = search needs
 
--- src/verdict.rt:128:13
 lower-verdict-requires : tie.Need-lower-verdict-requires
 lower-verdict-requires c κs = c .modes-in .ensures .checked-few
 
--- src/verdict.rt:130:50
 enum-told-7 : tie.Need-enum-told-7
 enum-told-7 c = search needs
 
--- src/verdict.rt:130:50
 slice-aggregate-crc-right-2 : tie.Need-slice-aggregate-crc-right-2
 slice-aggregate-crc-right-2 c = search needs
 
--- src/verdict.rt:130:31
 crc-right-requires-2 : tie.Need-crc-right-requires-2
 unfolding dPlaces checks
 crc-right-requires-2 c κs = listed-below 160 (getD (checks 0 Amr670) 0 []) tt
 
--- src/verdict.rt:130:25
 wrong-requires-2 : tie.Need-wrong-requires-2
 wrong-requires-2 c κs = search needs
 
--- src/verdict.rt:131:50
 enum-told-8 : tie.Need-enum-told-8
 enum-told-8 c = search needs
 
--- src/verdict.rt:131:50
 slice-aggregate-crc-right-3 : tie.Need-slice-aggregate-crc-right-3
 slice-aggregate-crc-right-3 c = search needs
 
--- src/verdict.rt:131:31
 crc-right-requires-3 : tie.Need-crc-right-requires-3
 unfolding dPlaces checks
 crc-right-requires-3 c κs = listed-below 160 (getD (checks 0 Amr740) 0 []) tt
 
--- src/verdict.rt:131:25
 wrong-requires-3 : tie.Need-wrong-requires-3
 wrong-requires-3 c κs = search needs
 
--- src/verdict.rt:117:1
 returns : tie.Need-returns
 unfolding dPlaces checks
 returns c = rw (c .before .before .before .enum-told .given .1) (c .wrong .ensures .0 ∙ one-verdict (c .before .before .before .before .before .args .x) (bitAt (c .before .before .before .before .before .args .o)) Speech (getD (checks 0 Speech) 0 []) (c .before .crc-right .result) refl refl refl (c .before .crc-right .ensures))
 
--- src/verdict.rt:117:1
 returns-2 : tie.Need-returns-2
 unfolding verdictOf checks
 returns-2 c = rw (c .enum-told2 .given .1)
 
--- src/verdict.rt:117:1
 returns-3 : tie.Need-returns-3
 unfolding verdictOf checks
 returns-3 c = rw (c .enum-told3 .given .1)
 
--- src/verdict.rt:117:1
 returns-4 : tie.Need-returns-4
 unfolding verdictOf checks
 returns-4 c = rw (c .enum-told4 .given .1)
 
--- src/verdict.rt:117:1
 returns-5 : tie.Need-returns-5
 unfolding verdictOf checks
 returns-5 c = rw (c .enum-told5 .given .1)
 
--- src/verdict.rt:117:1
 returns-6 : tie.Need-returns-6
 returns-6 c = rw (c .before .before .enum-told6 .given .1) (lower-verdict (c .before .before .before .before .args .x) (bitAt (c .before .before .before .before .args .o)) (c .before .modes-in .result .checked) (c .lower-verdict .result) (c .before .modes-in .ensures .used) (c .lower-verdict .ensures))
 
--- src/verdict.rt:117:1
 returns-7 : tie.Need-returns-7
 unfolding dPlaces checks
 returns-7 c = rw (c .before .before .before .enum-told7 .given .1) (c .wrong2 .ensures .0 ∙ one-verdict (c .before .before .before .before .before .args .x) (bitAt (c .before .before .before .before .before .args .o)) Amr670 (getD (checks 0 Amr670) 0 []) (c .before .crc-right2 .result) refl refl refl (c .before .crc-right2 .ensures))
 
--- src/verdict.rt:117:1
 returns-8 : tie.Need-returns-8
 unfolding dPlaces checks
 returns-8 c = rw (c .before .before .before .enum-told8 .given .1) (c .wrong3 .ensures .0 ∙ one-verdict (c .before .before .before .before .before .args .x) (bitAt (c .before .before .before .before .before .args .o)) Amr740 (getD (checks 0 Amr740) 0 []) (c .before .crc-right3 .result) refl refl refl (c .before .crc-right3 .ensures))

@@ -3,8 +3,9 @@
 use mathlib.Core.Path.{_≡_, refl, sym, _∙_, ap}
 use Prim.Native.Nat.{_+_}
 use native.Mathlib.Omega.{arith}
+use Rattle.channel.proofs.FrameLaws.{body-high}
 use Rattle.item.specs.declared.Cursor.{Cursor}
-use Rattle.item.proofs.ItemLaws.{body-le, over-frame, over-gap}
+use Rattle.item.proofs.ItemLaws.{over-frame, over-gap}
 use borrow.Author.Needs.{needs}
 use Rattle.item.proofs.Cursor.over.Statement.{statement}
 use Rattle.item.proofs.Cursor.over.Tie as tie
@@ -16,10 +17,10 @@ body-requires : tie.Need-body-requires
 body-requires c κs = search needs
 
 add-self : tie.Need-add-self
-add-self c = omega (arith, c .body .ensures, body-le (c .before .before .found .given .0 .0))
+add-self c = omega (arith, c .body .ensures, body-high (c .before .before .found .given .0 .0))
 
 add-self-2 : tie.Need-add-self-2
-add-self-2 c = omega (arith, c .body .ensures, body-le (c .before .before .found .given .0 .0))
+add-self-2 c = omega (arith, c .body .ensures, body-high (c .before .before .found .given .0 .0))
 
 after-requires : tie.Need-after-requires
 after-requires c κs = search needs

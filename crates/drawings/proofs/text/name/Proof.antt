@@ -1,0 +1,125 @@
+-- `drawings::text::name` meets its contract.
+-- Assumes nothing.
+use Rattle.drawings.specs.Text.{nameOf}
+use borrow.Author.Needs.{needs}
+use Rattle.drawings.proofs.text.name.Statement.{statement}
+use Rattle.drawings.proofs.text.name.Tie as tie
+
+enum-told : tie.Need-enum-told
+enum-told c = search needs
+
+enum-told-2 : tie.Need-enum-told-2
+enum-told-2 c = search needs
+
+enum-known-c : tie.Need-enum-known-c
+enum-known-c c = search needs
+
+lettered-requires : tie.Need-lettered-requires
+lettered-requires c κs = search needs
+
+enum-known-c-2 : tie.Need-enum-known-c-2
+enum-known-c-2 c = search needs
+
+lettered-requires-2 : tie.Need-lettered-requires-2
+lettered-requires-2 c κs = search needs
+
+enum-known-c-3 : tie.Need-enum-known-c-3
+enum-known-c-3 c = search needs
+
+digit-requires : tie.Need-digit-requires
+digit-requires c κs = search needs
+
+enum-known-c-4 : tie.Need-enum-known-c-4
+enum-known-c-4 c = search needs
+
+lettered-requires-3 : tie.Need-lettered-requires-3
+lettered-requires-3 c κs = search needs
+
+enum-known-c-5 : tie.Need-enum-known-c-5
+enum-known-c-5 c = search needs
+
+lettered-requires-4 : tie.Need-lettered-requires-4
+lettered-requires-4 c κs = search needs
+
+enum-known-c-6 : tie.Need-enum-known-c-6
+enum-known-c-6 c = search needs
+
+lettered-requires-5 : tie.Need-lettered-requires-5
+lettered-requires-5 c κs = search needs
+
+enum-told-3 : tie.Need-enum-told-3
+enum-told-3 c = search needs
+
+enum-told-4 : tie.Need-enum-told-4
+enum-told-4 c = search needs
+
+returns : tie.Need-returns
+unfolding nameOf
+returns c = rw (c .enum-told .given .1)
+
+returns-2 : tie.Need-returns-2
+unfolding nameOf
+returns-2 c = rw (c .enum-told2 .given .1)
+
+returns-3 : tie.Need-returns-3
+unfolding nameOf
+returns-3 c = rw (c .before .before .c .given .1) (c .lettered .ensures)
+
+returns-4 : tie.Need-returns-4
+unfolding nameOf
+returns-4 c = rw (c .before .before .c2 .given .1) (c .lettered2 .ensures)
+
+returns-5 : tie.Need-returns-5
+unfolding nameOf
+returns-5 c = rw (c .before .before .c3 .given .1, c .digit .ensures)
+
+returns-6 : tie.Need-returns-6
+unfolding nameOf
+returns-6 c = rw (c .before .before .c4 .given .1) (c .lettered3 .ensures)
+
+returns-7 : tie.Need-returns-7
+unfolding nameOf
+returns-7 c = rw (c .before .before .c5 .given .1) (c .lettered4 .ensures)
+
+returns-8 : tie.Need-returns-8
+unfolding nameOf
+returns-8 c = rw (c .before .before .c6 .given .1) (c .lettered5 .ensures)
+
+returns-9 : tie.Need-returns-9
+unfolding nameOf
+returns-9 c = rw (c .enum-told3 .given .1)
+
+returns-10 : tie.Need-returns-10
+unfolding nameOf
+returns-10 c = rw (c .enum-told4 .given .1)
+
+pub name-spec : {M : Type 1} → statement M
+name-spec =
+    tie.close
+    (tie.spec
+    enum-told
+    enum-told-2
+    enum-known-c
+    lettered-requires
+    enum-known-c-2
+    lettered-requires-2
+    enum-known-c-3
+    digit-requires
+    enum-known-c-4
+    lettered-requires-3
+    enum-known-c-5
+    lettered-requires-4
+    enum-known-c-6
+    lettered-requires-5
+    enum-told-3
+    enum-told-4
+    returns
+    returns-2
+    returns-3
+    returns-4
+    returns-5
+    returns-6
+    returns-7
+    returns-8
+    returns-9
+    returns-10)
