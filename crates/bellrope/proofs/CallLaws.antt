@@ -1,11 +1,11 @@
 -- Paging by its number: what a request that is not refused is like, and how the code's answer is the one promised.
 -- Assumes nothing.
 use mathlib.Core.Path.{_≡_, refl, sym, _∙_, ap, subst}
-use mathlib.Core.Bool.{Bool, true, false, cond, _&&_}
+use mathlib.Core.Bool.{Bool, true, false, cond}
 use mathlib.Core.List.{List, [], _∷_, _++_}
-use Prim.Native.Nat.{ℕ, zero, suc, _+_, _*_, _≤_, _<_}
+use Prim.Native.Nat.{ℕ, zero, suc, _*_, _≤_, _<_}
 use native.Mathlib.Omega.{arith}
-use borrow.Author.Tests.{ltb-false, eqb-false, ne-eqb, eq-eqb}
+use borrow.Author.Tests.{ltb-false, eqb-false, ne-eqb}
 use lib.Dec.{eqb, ltb}
 use lib.ListN.{length, drop}
 use Rattle.reading.specs.Reading.{Cursor, Item, overAll}
@@ -13,11 +13,11 @@ use Rattle.channel.specs.declared.Direction.{Direction}
 use Rattle.channel.specs.Frames.{Capture, captureOf, Frame, rules}
 use Rattle.record.specs.Record.{records}
 use Rattle.bellrope.specs.declared.Answer.{Answer}
-use Rattle.bellrope.specs.Paging.{directionOf, cursorAt, refusalOf, refused, Page, firstLeft, taken, Paged, PagedBy, PageCall}
+use Rattle.bellrope.specs.Paging.{directionOf, cursorAt, refusalOf, refused, firstLeft, taken, Paged, PagedBy, PageCall}
 use Rattle.bellrope.specs.Filled.{FilledIn, answerOf}
 
 -- a number that a test does not give
-passed : (b : Bool) (v x : ℕ) → 0 < v → cond b v x ≡ 0 → (b ≡ false) × (x ≡ 0)
+pub passed : (b : Bool) (v x : ℕ) → 0 < v → cond b v x ≡ 0 → (b ≡ false) × (x ≡ 0)
 passed true v x h e = absurd (omega arith)
 passed false v x h e = (refl, e)
 

@@ -21,7 +21,7 @@ use Rattle.bellrope.specs.Filled.{FilledIn}
 use Rattle.bellrope.proofs.PageLaws.{records-append, length-records, page-full, page-end, page-tight}
 
 module _ (a : ℕ) (xs : List ℕ) where
-  tail-is : midOf a (length xs - a) xs ≡ drop a xs
+  pub tail-is : midOf a (length xs - a) xs ≡ drop a xs
   tail-is = take-all (length xs - a) (drop a xs) (le-of-eq (length-drop a xs))
 
   rest-is : drop (length xs - a) (drop a xs) ≡ []

@@ -3,25 +3,24 @@
 -- Assumes nothing.
 use mathlib.Core.Path.{_≡_, refl, sym, _∙_, ap, subst}
 use mathlib.Core.Bool.{Bool, true, false, cond}
-use mathlib.Core.List.{List, [], _∷_, _++_, append-assoc, append-nil}
-use Prim.Native.Nat.{ℕ, zero, suc, _+_, _*_, _≤_, _<_}
+use mathlib.Core.List.{List, [], _∷_, _++_}
+use Prim.Native.Nat.{ℕ, zero, suc, _*_, _≤_, _<_}
 use native.Mathlib.Omega.{arith}
 use borrow.Author.Tests.{lt-ltb, le-ltb, ne-eqb}
-use lib.Dec.{ltb}
 use lib.ListN.{length, take, drop, length-append}
 use lib.Seq.{take-at}
-use Rattle.reading.specs.Reading.{Cursor, Item, gap, frame, over, overAll, Stretch, Reading, Leading, Pages, joined}
+use Rattle.reading.specs.Reading.{Cursor, Item, gap, frame, over, overAll, Stretch, Reading, Pages, joined}
 use Rattle.reading.proofs.ReadingLaws.{stretch-split, stretch-within, stretch-later}
 use Rattle.reading.proofs.ItemLaws as items
 use Rattle.channel.specs.declared.Kind.{Kind}
 use Rattle.channel.specs.declared.Kind.the-variants.{Speech, Data, Om, Configuration, NoSpeech, Lower, Amr670, Amr740}
 use Rattle.channel.specs.Coding.{Word}
-use Rattle.channel.specs.Verdict.{ownMode, afterOf}
+use Rattle.channel.specs.Verdict.{afterOf}
 use Rattle.channel.specs.Frames.{Capture, captureOf, Frame, rules}
 use Rattle.channel.proofs.FrameLaws.{sound}
 use Rattle.channel.proofs.ChannelLaws.{pages-joined}
 use Rattle.frame.proofs.VerdictLaws.{own-le}
-use Rattle.record.specs.Record.{recordOf, records}
+use Rattle.record.specs.Record.{records}
 use Rattle.bellrope.specs.declared.Answer.{Answer}
 use Rattle.bellrope.specs.Paging.{directionOf, cursorAt, refusalOf, refused, Page, firstLeft, taken, Paged, PagedBy, PageCall}
 use Rattle.bellrope.specs.Harvest.{Asked, Harvest, harvested, itemsOf}
@@ -70,10 +69,12 @@ module _ (capture : List ℕ) (n direction position context most : ℕ) (buffer 
       let b : a .bytes ≡ length (records (got .page)) = ap (λ (b : Answer). b .bytes) (got .answered) in
       ap (take (a .bytes)) (got .written) ∙ take-at (records (got .page)) (drop (length (records (got .page))) buffer) (a .bytes) (sym b)
 
-  stretch : Stretch rules w c (got .page)
+  -- the items of the page are a stretch from its cursor
+  pub stretch : Stretch rules w c (got .page)
   stretch = let (ys, r) = got .longest .leads in stretch-split rules w c (got .page) ys (r .0) .0
 
-  request : Admitted (length capture) n direction position context most
+  -- what 1 to 3 ask holds of it
+  pub request : Admitted (length capture) n direction position context most
   request = admitted (length capture) n direction position context most 0 (sym not-refused) refl
 
   -- a page that is not refused and not at the end makes progress
@@ -104,7 +105,7 @@ context-le c (gap s l ∷ xs) h = context-le (over rules c (gap s l)) xs (omega 
 context-le c (frame f ∷ xs) h = context-le (over rules c (frame f)) xs (after-le (c .context) (f .body) (f .kind))
 
 -- a request is admitted where these hold
-admit : (bytes n direction position context most : ℕ) → Admitted bytes n direction position context most → refusalOf bytes n direction position context most ≡ 0
+pub admit : (bytes n direction position context most : ℕ) → Admitted bytes n direction position context most → refusalOf bytes n direction position context most ≡ 0
 admit bytes n direction position context most h =
     rw (le-ltb 1 direction (h .way), ne-eqb most 0 (omega (arith, h .some)), le-ltb 65536 bytes (h .short), le-ltb (8 * bytes) n (h .count), le-ltb n position (h .inside), le-ltb 5 context (h .known))
 

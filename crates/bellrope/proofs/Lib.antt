@@ -3,3 +3,10 @@ pub mod FillLaws
 pub mod CallLaws
 pub mod HarvestLaws
 pub mod UnseenLaws
+pub mod TakeLaws
+pub mod WriteLaws
+pub mod ShownLaws
+pub mod RoundLaws
+pub mod OwnLaws
+pub mod PageWriteLaws
+pub mod JudgeLaws

@@ -1,3 +1,5 @@
 pub mod Paging
 pub mod Filled
 pub mod Harvest
+pub mod Writing
+pub mod Judged

@@ -1,9 +1,9 @@
 -- What paging answers (document 01, "Records and calls": Paging and the table of numbers). Nothing here says how one searches.
 -- Assumes nothing.
 use mathlib.Core.Path.{_≡_}
-use mathlib.Core.Bool.{Bool, true, false, cond, _&&_}
+use mathlib.Core.Bool.{Bool, false, cond}
 use mathlib.Core.List.{List, [], _∷_, _++_}
-use Prim.Native.Nat.{ℕ, zero, suc, _+_, _*_, _≤_}
+use Prim.Native.Nat.{ℕ, zero, suc, _*_, _≤_}
 use lib.Dec.{eqb, ltb}
 use lib.ListN.{length, drop}
 use Rattle.reading.specs.Reading.{Cursor, Item, overAll, Leading}
@@ -32,9 +32,13 @@ refusalOf bytes n direction position context most =
     (cond (ltb n position) 3
     (cond (ltb 5 context) 3 0)))))
 
--- a refusal: its number, 0 items, 0 bytes, the cursor as given, and index 0
+-- a refusal: its number, the index of the record refused, 0 items, 0 bytes, and the cursor as given
+abbrev pub refusedAt : ℕ → ℕ → ℕ → ℕ → Answer
+refusedAt number index position context = record { number = number; index = index; items = 0; bytes = 0; position = position; context = context }
+
+-- a refusal that is of no record: index 0
 abbrev pub refused : ℕ → ℕ → ℕ → Answer
-refused number position context = record { number = number; index = 0; items = 0; bytes = 0; position = position; context = context }
+refused number position context = refusedAt number 0 position context
 
 -- xs is the longest leading part of the reading from c that keeps to the count and fits
 pub record Page (w : Capture) (c : Cursor ℕ) (most room : ℕ) (xs : List (Item Frame)) : Type 0 where

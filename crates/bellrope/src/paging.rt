@@ -4,9 +4,11 @@ ghost use Prim.Native.Nat.{_*_, _≤_};
 ghost use lib.ListN.{length};
 ghost use Rattle.channel.specs.Frames.{captureOf};
 ghost use Rattle.item.specs.Item.{cursorOf};
-ghost use Rattle.bellrope.specs.Paging.{directionOf, refusalOf, refused, PageCall};
+ghost use Rattle.bellrope.specs.Paging.{refusalOf, PageCall};
 ghost use Rattle.bellrope.specs.Filled.{FilledIn, answerOf};
 use crate::Answer;
+use crate::direction_of;
+use crate::refuse;
 use channel::Direction;
 use item::Cursor;
 
@@ -41,31 +43,6 @@ fn refusal(bytes: usize, n: u64, direction: u64, position: u64, context: u64, mo
         return 3;
     }
     0
-}
-
-// The direction by its number.
-fn direction_of(direction: u64) -> Direction
-    ensures { λ r. ⌜ r ≡ directionOf direction ⌝ }
-{
-    if direction == 0 {
-        Direction::Uplink
-    } else {
-        Direction::Downlink
-    }
-}
-
-// The answer of a refusal: its number, nothing else, and the cursor as given.
-fn refuse(number: u64, position: u64, context: u64) -> Answer
-    ensures { λ r. ⌜ r ≡ refused number position context ⌝ }
-{
-    Answer {
-        number: number,
-        index: 0,
-        items: 0,
-        bytes: 0,
-        position: position,
-        context: context,
-    }
 }
 
 // Fills the buffer with records from the cursor on, each lent the part that begins where the last ended.
@@ -115,7 +92,7 @@ fn answer(n: u64, position: u64, context: u64, page: Filled) -> Answer
     let cursor = page.cursor;
     if items == 0 {
         if position < n {
-            return refuse(4, position, context);
+            return refuse(4, 0, position, context);
         }
         return Answer {
             number: 0,
@@ -152,7 +129,7 @@ pub extern "C" fn bellrope_page(
 {
     let number = refusal(capture.len(), n, direction, position, context, most);
     if number != 0 {
-        return refuse(number, position, context);
+        return refuse(number, 0, position, context);
     }
     let c = Cursor {
         position: position as usize,

@@ -1,11 +1,12 @@
 -- What is said of a frame lies in its body: bits behind it change nothing.
 -- Assumes nothing.
 use mathlib.Core.Path.{_≡_, refl, sym, _∙_, ap, ap₂}
-use mathlib.Core.Bool.{Bool, true, false, _&&_, not}
-use mathlib.Core.List.{List, [], _∷_, _++_}
-use Prim.Native.Nat.{ℕ, zero, suc, _+_, _*_, _<_}
+use mathlib.Core.Bool.{Bool, true, false, cond, _&&_, not}
+use mathlib.Core.List.{List, [], _∷_}
+use Prim.Native.Nat.{ℕ, zero, suc, _+_, _*_}
 use native.Mathlib.Nat.{zero-add}
-use lib.Dec.{eqb, ltb, leb}
+use borrow.Author.Tests.{eqb-true}
+use lib.Dec.{eqb, ltb}
 use Rattle.bits.specs.Bit.{toN}
 use Rattle.channel.specs.declared.Kind.{Kind}
 use Rattle.channel.specs.declared.Kind.the-variants.{Speech, Data, Om, Configuration, NoSpeech, Lower, Amr670, Amr740}
@@ -13,8 +14,8 @@ use Rattle.channel.specs.Kinds.{bodyOf}
 use Rattle.channel.specs.Places.{dPlaces}
 use Rattle.channel.specs.Coding.{Word, wordAt, bitsAt, all}
 use Rattle.channel.specs.Crc.{right, leaves111}
-use Rattle.channel.specs.Checks.{checks, checks475, checks515, checks590, checksLower}
-use Rattle.channel.specs.Verdict.{modeOf, unchecked, wrongs, verdictOf, afterOf, ownMode}
+use Rattle.channel.specs.Checks.{checks, checksLower}
+use Rattle.channel.specs.Verdict.{modeOf, wrongs, verdictOf, startsBy, starts, follows, allowed, afterOf}
 use Rattle.channel.specs.Control.{control, extended}
 use Rattle.channel.proofs.BoolLaws.{and-l, and-r}
 
@@ -106,3 +107,12 @@ d-cut g NoSpeech = bits-cut g 158 (dPlaces NoSpeech) refl
 d-cut g Lower = bits-cut g 159 (dPlaces Lower) refl
 d-cut g Amr670 = bits-cut g 160 (dPlaces Amr670) refl
 d-cut g Amr740 = bits-cut g 160 (dPlaces Amr740) refl
+
+-- rule 2, by the verdict that the code has
+pub allowed-by : (x : ℕ) (g : Word) (k : Kind) (v : ℕ) → v ≡ verdictOf x g k → cond (eqb x 0) (startsBy k v) (follows x k) ≡ allowed x (wordAt g 0 (bodyOf k)) k
+unfolding starts
+allowed-by x g k v e = go (eqb x 0) refl
+  where
+    go : (b : Bool) → eqb x 0 ≡ b → cond b (startsBy k v) (follows x k) ≡ cond b (startsBy k (verdictOf 0 (wordAt g 0 (bodyOf k)) k)) (follows x k)
+    go false q = refl
+    go true q = ap (startsBy k) (e ∙ ap (λ (y : ℕ). verdictOf y g k) (eqb-true x 0 q) ∙ sym (verdict-cut 0 g k))

@@ -1,12 +1,13 @@
 -- One kind at most stands at a place; the frame that is due there, computed; the eight kinds have what the laws of a reading ask.
 -- Assumes nothing.
-use mathlib.Core.Path.{_≡_, refl, sym, _∙_, ap, subst}
+use mathlib.Core.Path.{_≡_, refl, sym, _∙_, ap, subst, fun-ext}
 use mathlib.Core.Bool.{Bool, true, false, not, _&&_, cond}
 use mathlib.Core.List.{List, [], _∷_}
 use mathlib.Core.Option.{Option, none, some}
-use Prim.Native.Nat.{ℕ, zero, suc, _+_, _-_, _≤_, _<_}
+use Prim.Native.Nat.{ℕ, _+_, _-_, _≤_}
+use native.Mathlib.Nat.{zero-add}
 use native.Mathlib.Omega.{arith}
-use lib.Dec.{leb, ltb, eqb}
+use lib.Dec.{leb, eqb}
 use borrow.Author.Tests.{leb-true, eqb-true, not-true, le-leb}
 use Rattle.reading.specs.Reading.{Sound}
 use Rattle.channel.specs.declared.Direction.{Direction}
@@ -16,8 +17,8 @@ use Rattle.channel.specs.declared.Kind.{Kind}
 use Rattle.channel.specs.declared.Kind.the-variants.{Speech, Data, Om, Configuration, NoSpeech, Lower, Amr670, Amr740}
 use Rattle.channel.specs.Kinds.{kinds, kindNo, patternOf, bodyOf, leastTail}
 use Rattle.channel.specs.Coding.{Word, wordAt, fixed, c1to3, c4to5, hrCoded, coded, isBody}
-use Rattle.channel.specs.Verdict.{verdictOf, starts, follows, allowed, afterOf}
-use Rattle.channel.specs.Frames.{Capture, Frame, Tail, Stands, Due, rules}
+use Rattle.channel.specs.Verdict.{verdictOf, starts, allowed}
+use Rattle.channel.specs.Frames.{Capture, Frame, Stands, Due, rules}
 use Rattle.channel.proofs.BoolLaws.{ands, and-both, zero-at, one-at}
 use Rattle.channel.proofs.TailLaws.{tailOf, tail-whole, tail-one}
 
@@ -71,6 +72,10 @@ body-cut d f p NoSpeech = refl
 body-cut d f p Lower = refl
 body-cut d f p Amr670 = refl
 body-cut d f p Amr740 = refl
+
+-- whether a word is a body does not change where it is cut behind the body
+pub uncut : (d : Direction) (g : Word) (k : Kind) → isBody d (wordAt g 0 (bodyOf k)) k ≡ isBody d g k
+uncut d g k = body-cut d g 0 k ∙ ap (λ (h : Word). isBody d h k) (fun-ext (λ i. ap g (zero-add i)))
 
 -- one kind at most has its body at a place
 one-kind : (d : Direction) (f : ℕ → Bool) (p : ℕ) (j k : Kind) → isBody d (wordAt f p (bodyOf j)) j ≡ true → isBody d (wordAt f p (bodyOf k)) k ≡ true → j ≡ k

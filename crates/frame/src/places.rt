@@ -77,6 +77,18 @@ pub const AMR_C: [u8; 3] = [17, 18, 19];
 // XC1..XC6 of HR speech and O&M.
 pub const XC: [u8; 6] = [14, 15, 18, 19, 20, 21];
 
+// XC1..XC5 of HR speech and O&M.
+pub const XC1_TO_5: [u8; 5] = [14, 15, 18, 19, 20];
+
+// What the control byte of the HR pattern holds: C1..C4.
+pub const HR_CONTROL: [u8; 4] = [9, 10, 11, 12];
+
+// What the control byte of HR speech holds: C1..C4 and C6..C9.
+pub const SPEECH_CONTROL: [u8; 8] = [9, 10, 11, 12, 154, 155, 156, 157];
+
+// What the extended byte of HR speech holds: XC1..XC5 and CRC2..CRC0.
+pub const SPEECH_EXTENDED: [u8; 8] = [14, 15, 18, 19, 20, 73, 74, 75];
+
 // What kind 1's CRC covers, and CRC2..CRC0.
 pub const SPEECH_CRC: [u8; 47] = [
     22, // D1

@@ -2,8 +2,7 @@
 -- Assumes nothing.
 use mathlib.Core.Path.{_≡_, refl, sym, _∙_, ap}
 use mathlib.Core.List.{List, [], _∷_, _++_}
-use Prim.Native.Nat.{ℕ, suc, _+_, _*_, _-_, _/_, _%_, _≤_, _<_}
-use native.Mathlib.Nat.{div-div-eq-div-mul, div-one, div-add-mod, mod-eq-of-lt}
+use Prim.Native.Nat.{ℕ, suc, _+_, _-_, _≤_, _<_}
 use native.Mathlib.Omega.{arith}
 use lib.Dec.{lit<}
 use lib.ListN.{length, take, drop, getD, length-append, length-drop}
@@ -13,20 +12,9 @@ use Rattle.channel.specs.declared.Kind.{Kind}
 use Rattle.channel.specs.declared.Kind.the-variants.{Speech, Data, Om, Configuration, NoSpeech, Lower, Amr670, Amr740}
 use Rattle.channel.specs.Kinds.{kindNo}
 use Rattle.channel.specs.Frames.{Frame}
-use Rattle.record.specs.Record.{recordOf, records, sizeOf, dLength}
-use Rattle.record.proofs.RecordLaws.{record-length, size-pos}
-use Rattle.list.specs.Line.{spaced, Ends, lineOf, numberAt, sizes, Fits, AllFit, Recorded, Lined, LineLong, Records, Counted}
-
--- a number of 32 bits is that of its four bytes
-by-digits : (x a b c p q r : ℕ) → 256 * a + p ≡ x → 256 * b + q ≡ a → 256 * c + r ≡ b → c * 16777216 + r * 65536 + q * 256 + p ≡ x
-by-digits x a b c p q r e f g = omega arith
-
-four-bytes : (x : ℕ) → x < 4294967296 → x / 16777216 % 256 * 16777216 + x / 65536 % 256 * 65536 + x / 256 % 256 * 256 + x / 1 % 256 ≡ x
-four-bytes x h =
-    let a : x / 65536 ≡ x / 256 / 256 = sym (div-div-eq-div-mul x 256 256) in
-    let b : x / 16777216 ≡ x / 256 / 256 / 256 = sym (div-div-eq-div-mul x 65536 256) ∙ ap (λ (k : ℕ). k / 256) a in
-    let top : x / 256 / 256 / 256 % 256 ≡ x / 256 / 256 / 256 = mod-eq-of-lt (omega arith) in
-    rw (b, a, div-one, top) (by-digits x (x / 256) (x / 256 / 256) (x / 256 / 256 / 256) (x % 256) (x / 256 % 256) (x / 256 / 256 % 256) (div-add-mod x 256) (div-add-mod (x / 256) 256) (div-add-mod (x / 256 / 256) 256))
+use Rattle.record.specs.Record.{numberAt, recordOf, records, sizeOf, dLength}
+use Rattle.record.proofs.RecordLaws.{four-bytes, record-length, size-pos}
+use Rattle.list.specs.Line.{spaced, Ends, lineOf, sizes, Fits, AllFit, Recorded, Lined, LineLong, Records, Counted}
 
 -- a kind's number and the size of its record
 kind-some : (k : Kind) → 0 < kindNo k

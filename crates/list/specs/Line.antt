@@ -3,9 +3,9 @@
 use mathlib.Core.Path.{_≡_}
 use mathlib.Core.Bool.{cond}
 use mathlib.Core.List.{List, [], _∷_, _++_}
-use Prim.Native.Nat.{ℕ, zero, suc, _+_, _*_, _/_, _%_, _<_, _≤_}
+use Prim.Native.Nat.{ℕ, zero, suc, _+_, _/_, _%_, _<_}
 use lib.Dec.{ltb}
-use lib.ListN.{length, take, getD}
+use lib.ListN.{length, take}
 use Rattle.io.specs.Counts.{Counts}
 use Rattle.reading.specs.Reading.{Item, gap, frame}
 use Rattle.channel.specs.Kinds.{kindNo}
@@ -35,10 +35,6 @@ pub record Ends (out : List ℕ) (end : ℕ) (text : List ℕ) : Type 0 where
 abbrev pub lineOf : Item Frame → List ℕ
 lineOf (gap start span) = 71 ∷ spaced (start ∷ span ∷ [])
 lineOf (frame f) = 70 ∷ spaced (kindNo (f .kind) ∷ f .start ∷ f .tail ∷ f .verdict ∷ [])
-
--- the number in four bytes from a place on, the high byte first
-abbrev pub numberAt : List ℕ → ℕ → ℕ
-numberAt s at = getD s at 0 * 16777216 + getD s (at + 1) 0 * 65536 + getD s (at + 2) 0 * 256 + getD s (at + 3) 0
 
 -- the sizes of records by their kinds, a gap first
 abbrev pub sizes : List ℕ

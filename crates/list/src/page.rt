@@ -1,8 +1,8 @@
 // The records of a page, taken apart and printed.
 ghost use mathlib.Core.Path.{_≡_};
-ghost use Prim.Native.Nat.{_+_, _*_, _≤_, _<_};
+ghost use Prim.Native.Nat.{_+_, _≤_, _<_};
 ghost use lib.ListN.{length, getD};
-ghost use Rattle.list.specs.Line.{numberAt, sizes, Recorded, Lined, LineLong, Records, Counted};
+ghost use Rattle.list.specs.Line.{sizes, Recorded, Lined, LineLong, Records, Counted};
 use crate::line;
 use libc::STDOUT_FILENO;
 
@@ -17,29 +17,14 @@ fn size(kind: u8) -> usize
     SIZES[kind as usize]
 }
 
-// The number of four bytes, the high byte first.
-fn joined(a: u8, b: u8, c: u8, d: u8) -> u64
-    ensures { λ r. ⌜ r ≡ a * 16777216 + b * 65536 + c * 256 + d ⌝ }
-{
-    a as u64 * 16777216 + b as u64 * 65536 + c as u64 * 256 + d as u64
-}
-
-// The number in four bytes from a place on, the high byte first.
-fn number_at(bytes: &[u8], at: usize) -> u64
-    requires { ⌜ at + 4 ≤ length (now bytes) ⌝ }
-    ensures { λ r. ⌜ r ≡ numberAt (now (bytes .entry)) at ⌝ }
-{
-    joined(bytes[at], bytes[at + 1], bytes[at + 2], bytes[at + 3])
-}
-
 // Puts the line of the item that a record is of, and answers where it ends.
 fn put_line(out: &mut [u8], bytes: &[u8]) -> usize
     requires { ⌜ Recorded (now bytes) × (86 ≤ length (now out)) ⌝ }
     ensures { λ r. ⌜ Lined (now (bytes .entry)) (now (out .exit)) r ⌝ }
 {
     let kind = bytes[0];
-    let start = number_at(bytes, 1);
-    let span = number_at(bytes, 5);
+    let start = record::number_at(bytes, 1);
+    let span = record::number_at(bytes, 5);
     if kind == 0 {
         return line::put_gap(out, start, span);
     }

@@ -3,12 +3,13 @@
 use mathlib.Core.Path.{_≡_, refl, ap, sym, subst, _∙_}
 use mathlib.Core.Logic.{by-cases}
 use mathlib.Core.Bool.{Bool, true, false}
-use mathlib.Core.List.{List, [], _∷_, map}
+use mathlib.Core.List.{List, [], _∷_, _++_, map}
 use Prim.Native.Nat.{ℕ, zero, suc, _+_, _*_, _/_, _%_, _-_, _^_, _<_, _≤_}
 use native.Mathlib.Nat.{mod-lt, add-zero, zero-add}
 use native.Mathlib.Numerals.{add-one}
 use native.Mathlib.Decide.{ℕ-discrete, decLt}
 use native.Mathlib.Omega.{arith}
+use Rattle.word.specs.Below.{Below}
 use lib.Arith.{digits-lt}
 use lib.Dec.{eqb}
 use lib.ListN.{length, getD, drop, set, replicate, length-set, drop-of-length-le}
@@ -16,7 +17,7 @@ use lib.Pow.{pow-pos, pow-add, shr-lt, shr-shr, high, low, field, mod-mod-pow}
 use lib.Seq.{drop-cons, getD-set-same, getD-set-other}
 use Rattle.bits.specs.Bit.{bitAt, toN, count}
 use Rattle.bits.proofs.BitLaws.{toN-lt, toN-one}
-use Rattle.put.specs.Put.{putIn, putBit, putBits}
+use Rattle.put.specs.Put.{putIn, putBit, putBits, putPlaces}
 
 -- a byte stays a byte
 putIn-lt : (d k x b : ℕ) → x < 2 ^ (suc d + k) → b < 2 → putIn x k b < 2 ^ (suc d + k)
@@ -109,6 +110,14 @@ module _ (s : List ℕ) (bs : List Bool) (p i : ℕ) where
   unfolding putBits
   put-end h = rw (drop-of-length-le bs {i = i} h)
 
+-- bits put behind others
+pub puts-append : (bs cs : List Bool) (s : List ℕ) (p : ℕ) → putBits s p (bs ++ cs) ≡ putBits (putBits s p bs) (p + length bs) cs
+unfolding putBits
+puts-append [] cs s p = rw (add-zero p)
+puts-append (b ∷ bs) cs s p =
+    let e : p + 1 + length bs ≡ p + suc (length bs) = omega arith in
+    puts-append bs cs (putBit s p b) (p + 1) ∙ ap (λ (q : ℕ). putBits (putBits (putBit s p b) (p + 1) bs) q cs) e
+
 -- the bits of a body and of a tail
 pub body-length : (g : ℕ → Bool) (k : ℕ) → length (map g (count k 0)) ≡ k
 body-length g k = go k 0
@@ -161,3 +170,54 @@ puts-past (b ∷ bs) s p r h l =
   where
     past : (r p n : ℕ) → p + suc n ≤ r → r ≡ p → ⊥
     past r p n l e = omega arith
+
+-- bits put at places: a turn of the loop, and its end
+module _ (s ps : List ℕ) (h : ℕ → Bool) (j : ℕ) where
+  pub places-turn : j < length ps → putPlaces s (drop j ps) h j ≡ putPlaces (putBit s (getD ps j 0) (h j)) (drop (j + 1) ps) h (j + 1)
+  unfolding putPlaces
+  places-turn l = rw (add-one j, drop-cons ps j 0 l)
+
+  pub places-end : length ps ≤ j → putPlaces s (drop j ps) h j ≡ s
+  unfolding putPlaces
+  places-end l = rw (drop-of-length-le ps {i = j} l)
+
+pub length-places : (ps s : List ℕ) (h : ℕ → Bool) (i : ℕ) → length (putPlaces s ps h i) ≡ length s
+unfolding putPlaces
+length-places [] s h i = refl
+length-places (p ∷ ps) s h i = length-places ps (putBit s p (h i)) h (suc i) ∙ length-put s p (h i)
+
+-- a word's own bit put where it stands: wherever the bytes had the word's bits they have them still
+pub own-kept : (g : ℕ → Bool) (s : List ℕ) (p : ℕ) (b : Bool) (q : ℕ) → p < 8 * length s → b ≡ g p → bitAt s q ≡ g q → bitAt (putBit s p b) q ≡ g q
+own-kept g s p b q h own e =
+    by-cases (ℕ-discrete q p)
+    (λ (d : q ≡ p). subst (λ (i : ℕ). bitAt (putBit s p b) i ≡ g i) (sym d) (put-at s p b h ∙ own))
+    (λ (d : ¬ (q ≡ p)). put-off s p b q h d ∙ e)
+
+-- a word's own bits put at some places: the bytes have them there, and still have those that they had
+module _ (g h : ℕ → Bool) (m : ℕ) where
+  abbrev pub Own : List ℕ → ℕ → Type 0
+  Own ps i = (j : ℕ) → j < length ps → h (i + j) ≡ g (getD ps j 0)
+
+  later : (p : ℕ) (ps : List ℕ) (i : ℕ) → Own (p ∷ ps) i → Own ps (suc i)
+  later p ps i own j l = let e : suc i + j ≡ i + suc j = omega arith in ap h e ∙ own (suc j) (omega arith)
+
+  first : (p : ℕ) (ps : List ℕ) (i : ℕ) → Own (p ∷ ps) i → h i ≡ g p
+  first p ps i own = ap h (sym (add-zero i)) ∙ own 0 (omega arith)
+
+  pub places-kept : (ps s : List ℕ) (i q : ℕ) → Below m ps → m ≤ 8 * length s → Own ps i → bitAt s q ≡ g q → bitAt (putPlaces s ps h i) q ≡ g q
+  unfolding putPlaces
+  places-kept [] s i q b l own e = e
+  places-kept (p ∷ ps) s i q b l own e =
+      let in-s : p < m = b 0 (omega arith) in
+      places-kept ps (putBit s p (h i)) (suc i) q (λ j t. b (suc j) (omega arith)) (rw (length-put s p (h i)) l) (later p ps i own)
+      (own-kept g s p (h i) q (omega arith) (first p ps i own) e)
+
+  pub places-put : (ps s : List ℕ) (i j : ℕ) → Below m ps → m ≤ 8 * length s → Own ps i → j < length ps → bitAt (putPlaces s ps h i) (getD ps j 0) ≡ g (getD ps j 0)
+  unfolding putPlaces
+  places-put [] s i j b l own t = absurd (omega arith)
+  places-put (p ∷ ps) s i zero b l own t =
+      let in-s : p < m = b 0 (omega arith) in
+      places-kept ps (putBit s p (h i)) (suc i) p (λ j t. b (suc j) (omega arith)) (rw (length-put s p (h i)) l) (later p ps i own)
+      (put-at s p (h i) (omega arith) ∙ first p ps i own)
+  places-put (p ∷ ps) s i (suc j) b l own t =
+      places-put ps (putBit s p (h i)) (suc i) j (λ j t. b (suc j) (omega arith)) (rw (length-put s p (h i)) l) (later p ps i own) (omega arith)

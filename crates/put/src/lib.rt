@@ -1,11 +1,12 @@
-// Bits put into a lent buffer: a frame's body and the ones of its tail.
+// Bits put into bytes: a frame's body and the ones of its tail into a lent buffer, the bits of a record at their places of a frame.
 ghost use mathlib.Core.Path.{_≡_};
 ghost use mathlib.Core.Bool.{true};
 ghost use mathlib.Core.List.{map};
 ghost use Prim.Native.Nat.{_+_, _*_, _^_, _<_, _≤_};
 ghost use lib.ListN.{length, replicate};
 ghost use Rattle.bits.specs.Bit.{bitAt, toN, count};
-ghost use Rattle.put.specs.Put.{putIn, putBit, putBits};
+ghost use Rattle.word.specs.Below.{Below};
+ghost use Rattle.put.specs.Put.{putIn, putBit, putBits, putPlaces};
 
 // The weight of a bit.
 fn weight(k: usize) -> u8
@@ -32,7 +33,7 @@ fn number(b: bool) -> u8
 }
 
 // Bit p becomes b, the other bits keep their value.
-fn put_bit(s: &mut [u8], p: usize, b: bool)
+pub fn put_bit(s: &mut [u8], p: usize, b: bool)
     requires { ⌜ p < 8 * length (now s) ⌝ }
     ensures { λ _. ⌜ now (s .exit) ≡ putBit (now (s .entry)) p b ⌝ }
 {
@@ -58,4 +59,17 @@ pub fn tail(s: &mut [u8], p: usize, t: usize)
     for i in 0..t {
         put_bit(s, p + i, true);
     }
+}
+
+// The bits of some bytes, from the first on, at the places of a frame.
+pub fn at_places(o: [u8; 20], places: &[u8], from: &[u8]) -> [u8; 20]
+    requires { ⌜ Below 160 (now places) × (length (now places) ≤ 8 * length (now from)) ⌝ }
+    ensures { λ r. ⌜ r ≡ putPlaces o (now (places .entry)) (bitAt (now (from .entry))) 0 ⌝ }
+{
+    let mut held = o;
+    for j in 0..places.len() {
+        let p = places[j] as usize;
+        put_bit(&mut held, p, bits::bit(from, j));
+    }
+    held
 }

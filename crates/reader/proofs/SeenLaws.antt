@@ -6,7 +6,7 @@ use mathlib.Core.List.{List}
 use Prim.Native.Nat.{ℕ, _+_, _≤_, _<_}
 use native.Mathlib.Omega.{arith}
 use native.Mathlib.Nat.{zero-add}
-use borrow.Author.Tests.{eqb-true, ltb-true, lt-ltb, not-true, not-false}
+use borrow.Author.Tests.{ltb-true, lt-ltb, not-true, not-false}
 use lib.Dec.{eqb, ltb}
 use Rattle.bits.specs.Bit.{bitAt, twenty, bitsFrom}
 use Rattle.bits.proofs.BitLaws.{twenty-bit}
@@ -14,31 +14,18 @@ use Rattle.channel.specs.declared.Direction.{Direction}
 use Rattle.channel.specs.declared.Kind.{Kind}
 use Rattle.channel.specs.Kinds.{bodyOf, leastTail}
 use Rattle.channel.specs.Coding.{Word, wordAt, isBody}
-use Rattle.channel.specs.Verdict.{verdictOf, starts, startsBy, follows, allowed}
-use Rattle.channel.specs.Frames.{Capture, captureOf, Frame, Tail, Due}
+use Rattle.channel.specs.Verdict.{verdictOf, startsBy, follows, allowed}
+use Rattle.channel.specs.Frames.{Capture, Frame, Tail, Due}
 use Rattle.channel.proofs.BoolLaws.{never}
 use Rattle.channel.proofs.TailLaws.{tail-one}
-use Rattle.channel.proofs.FrameLaws.{body-cut, one-body, body-high}
-use Rattle.channel.proofs.CutLaws.{verdict-cut}
+use Rattle.channel.proofs.FrameLaws.{one-body, body-high, uncut}
+use Rattle.channel.proofs.CutLaws.{allowed-by, verdict-cut}
 use Rattle.frame.specs.declared.coding.Found.{Found}
 use Rattle.frame.specs.declared.coding.Found.the-variants.{Is, Nothing}
 use Rattle.frame.specs.Found.{KindOf}
 use Rattle.item.specs.declared.Item.{Item}
 use Rattle.item.specs.Item.{frameOf}
 use Rattle.reader.specs.Seen.{Seen}
-
--- whether a word is a body does not change where it is cut behind the body
-uncut : (d : Direction) (g : Word) (k : Kind) → isBody d (wordAt g 0 (bodyOf k)) k ≡ isBody d g k
-uncut d g k = body-cut d g 0 k ∙ ap (λ (h : Word). isBody d h k) (fun-ext (λ i. ap g (zero-add i)))
-
--- rule 2, by the verdict that the code has
-allowed-by : (x : ℕ) (g : Word) (k : Kind) (v : ℕ) → v ≡ verdictOf x g k → cond (eqb x 0) (startsBy k v) (follows x k) ≡ allowed x (wordAt g 0 (bodyOf k)) k
-unfolding starts
-allowed-by x g k v e = go (eqb x 0) refl
-  where
-    go : (b : Bool) → eqb x 0 ≡ b → cond b (startsBy k v) (follows x k) ≡ cond b (startsBy k (verdictOf 0 (wordAt g 0 (bodyOf k)) k)) (follows x k)
-    go false q = refl
-    go true q = ap (startsBy k) (e ∙ ap (λ (y : ℕ). verdictOf y g k) (eqb-true x 0 q) ∙ sym (verdict-cut 0 g k))
 
 module _ (f : ℕ → Bool) (n : ℕ) (d : Direction) (x p : ℕ) (o : List ℕ) (octets : o ≡ twenty (bitsFrom f n p)) where
   abbrev w : Capture

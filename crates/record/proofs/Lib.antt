@@ -2,3 +2,4 @@
 -- Assumes nothing.
 pub mod RecordLaws
 pub mod OneLaws
+pub mod BuiltLaws

@@ -3,7 +3,7 @@
 use mathlib.Core.Path.{_≡_, refl, sym, _∙_, ap}
 use mathlib.Core.List.{List, [], _∷_, _++_, map}
 use Prim.Native.Nat.{ℕ, _+_, _*_, _/_, _%_, _<_, _≤_}
-use native.Mathlib.Nat.{div-one}
+use native.Mathlib.Nat.{div-div-eq-div-mul, div-add-mod, mod-eq-of-lt, div-one}
 use native.Mathlib.Numerals.{add-one}
 use native.Mathlib.Omega.{arith}
 use lib.Dec.{lit<}
@@ -38,6 +38,17 @@ d-length-le NoSpeech = lit< tt
 d-length-le Lower = lit< tt
 d-length-le Amr670 = lit< tt
 d-length-le Amr740 = lit< tt
+
+-- a number of 32 bits is that of its four bytes
+by-digits : (x a b c p q r : ℕ) → 256 * a + p ≡ x → 256 * b + q ≡ a → 256 * c + r ≡ b → c * 16777216 + r * 65536 + q * 256 + p ≡ x
+by-digits x a b c p q r e f g = omega arith
+
+pub four-bytes : (x : ℕ) → x < 4294967296 → x / 16777216 % 256 * 16777216 + x / 65536 % 256 * 65536 + x / 256 % 256 * 256 + x / 1 % 256 ≡ x
+four-bytes x h =
+    let a : x / 65536 ≡ x / 256 / 256 = sym (div-div-eq-div-mul x 256 256) in
+    let b : x / 16777216 ≡ x / 256 / 256 / 256 = sym (div-div-eq-div-mul x 65536 256) ∙ ap (λ (k : ℕ). k / 256) a in
+    let top : x / 256 / 256 / 256 % 256 ≡ x / 256 / 256 / 256 = mod-eq-of-lt (omega arith) in
+    rw (b, a, div-one, top) (by-digits x (x / 256) (x / 256 / 256) (x / 256 / 256 / 256) (x % 256) (x / 256 % 256) (x / 256 / 256 % 256) (div-add-mod x 256) (div-add-mod (x / 256) 256) (div-add-mod (x / 256 / 256) 256))
 
 -- the D bits of every kind fill 19 bytes, the last ones with zeros
 pub length-dBytes : (g : Word) (k : Kind) → length (dBytes g k) ≡ 19

@@ -3,7 +3,7 @@
 use mathlib.Core.Path.{_≡_}
 use mathlib.Core.Bool.{true}
 use mathlib.Core.List.{List, [], _∷_}
-use Prim.Native.Nat.{ℕ, _<_}
+use Prim.Native.Nat.{_<_}
 use Rattle.reading.specs.Reading.{Item, gap, frame}
 use Rattle.channel.specs.declared.Direction.{Direction}
 use Rattle.channel.specs.Kinds.{bodyOf}

@@ -1,8 +1,8 @@
 -- Records: the bytes of an item (document 01, "Records and calls").
 -- Assumes nothing.
 use mathlib.Core.List.{List, [], _∷_, _++_}
-use Prim.Native.Nat.{ℕ, zero, suc, _+_, _/_, _%_, _^_}
-use lib.ListN.{take}
+use Prim.Native.Nat.{ℕ, zero, suc, _+_, _*_, _/_, _%_, _^_}
+use lib.ListN.{take, getD}
 use Rattle.reading.specs.Reading.{Item, gap, frame}
 use Rattle.channel.specs.declared.Kind.{Kind}
 use Rattle.channel.specs.Kinds.{kindNo, dCount}
@@ -14,6 +14,10 @@ use Rattle.dbits.specs.DBits.{dBytes}
 abbrev pub wide : ℕ → ℕ → List ℕ
 wide zero v = []
 wide (suc k) v = v / 256 ^ k % 256 ∷ wide k v
+
+-- the number in four bytes from a place on, the high byte first
+abbrev pub numberAt : List ℕ → ℕ → ℕ
+numberAt s at = getD s at 0 * 16777216 + getD s (at + 1) 0 * 65536 + getD s (at + 2) 0 * 256 + getD s (at + 3) 0
 
 -- how many bytes the D bits of a kind take
 abbrev pub dLength : Kind → ℕ

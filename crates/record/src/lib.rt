@@ -5,23 +5,14 @@ use frame::places;
 use item::Item;
 ghost use mathlib.Core.Path.{_≡_};
 ghost use mathlib.Core.List.{_++_, _∷_};
-ghost use Prim.Native.Nat.{_+_, _≤_};
+ghost use Prim.Native.Nat.{_+_, _*_, _≤_};
 ghost use lib.ListN.{length, take, drop};
 ghost use Rattle.bits.specs.Bit.{bitAt};
 ghost use Rattle.channel.specs.Control.{control, extended};
 ghost use Rattle.dbits.specs.DBits.{dBytes};
 ghost use Rattle.item.specs.Item.{itemOf};
-ghost use Rattle.record.specs.Record.{wide, dLength, sizeOf, recordOf};
+ghost use Rattle.record.specs.Record.{wide, numberAt, dLength, sizeOf, recordOf};
 ghost use Rattle.record.specs.Size.{sizeBy};
-
-// C1..C4 and C6..C9 of HR speech.
-const CONTROL_PLACES: [u8; 8] = [9, 10, 11, 12, 154, 155, 156, 157];
-
-// C1..C4 of the HR pattern.
-const HR_CONTROL_PLACES: [u8; 4] = [9, 10, 11, 12];
-
-// XC1..XC5 and CRC2..CRC0 of HR speech.
-const EXTENDED_PLACES: [u8; 8] = [14, 15, 18, 19, 20, 73, 74, 75];
 
 // How many bytes the D bits of a kind take.
 fn d_length(k: Kind) -> usize
@@ -45,10 +36,10 @@ fn control_byte(o: [u8; 20], k: Kind) -> u8
     ensures { λ r. ⌜ r ≡ control (bitAt o) k ⌝ }
 {
     match k {
-        Kind::Speech => word::top_byte(o, &CONTROL_PLACES),
-        Kind::Data => word::top_byte(o, &HR_CONTROL_PLACES),
-        Kind::Om => word::top_byte(o, &HR_CONTROL_PLACES),
-        Kind::Configuration => word::top_byte(o, &HR_CONTROL_PLACES),
+        Kind::Speech => word::top_byte(o, &places::SPEECH_CONTROL),
+        Kind::Data => word::top_byte(o, &places::HR_CONTROL),
+        Kind::Om => word::top_byte(o, &places::HR_CONTROL),
+        Kind::Configuration => word::top_byte(o, &places::HR_CONTROL),
         Kind::NoSpeech => word::top_byte(o, &places::LOW_C),
         Kind::Lower => word::top_byte(o, &places::LOW_C),
         Kind::Amr670 => word::top_byte(o, &places::AMR_C),
@@ -61,7 +52,7 @@ fn extended_byte(o: [u8; 20], k: Kind) -> u8
     ensures { λ r. ⌜ r ≡ extended (bitAt o) k ⌝ }
 {
     match k {
-        Kind::Speech => word::top_byte(o, &EXTENDED_PLACES),
+        Kind::Speech => word::top_byte(o, &places::SPEECH_EXTENDED),
         Kind::Data => 0,
         Kind::Om => 248,
         Kind::Configuration => 0,
@@ -98,6 +89,21 @@ fn put_d(out: &mut [u8], o: [u8; 20], k: Kind)
     for j in 0..n {
         out[12 + j] = bytes[j];
     }
+}
+
+// The number of four bytes, the high byte first.
+fn joined(a: u8, b: u8, c: u8, d: u8) -> u64
+    ensures { λ r. ⌜ (r ≡ a * 16777216 + b * 65536 + c * 256 + d) × (r ≤ 4294967295) ⌝ }
+{
+    a as u64 * 16777216 + b as u64 * 65536 + c as u64 * 256 + d as u64
+}
+
+// The number in four bytes from a place on, the high byte first.
+pub fn number_at(bytes: &[u8], at: usize) -> u64
+    requires { ⌜ at + 4 ≤ length (now bytes) ⌝ }
+    ensures { λ r. ⌜ (r ≡ numberAt (now (bytes .entry)) at) × (r ≤ 4294967295) ⌝ }
+{
+    joined(bytes[at], bytes[at + 1], bytes[at + 2], bytes[at + 3])
 }
 
 // The record of an item, at the front of a lent part; the rest of the part is unchanged.

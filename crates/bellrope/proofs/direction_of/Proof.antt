@@ -1,9 +1,8 @@
--- `bellrope::paging::direction_of` meets its contract.
+-- `bellrope::direction_of` meets its contract.
 -- Assumes nothing.
-use borrow.Author.Tests.{lt-ltb, le-ltb, eq-eqb, ne-eqb}
-use borrow.Author.Needs.{needs}
-use Rattle.bellrope.proofs.paging.direction_of.Statement.{statement}
-use Rattle.bellrope.proofs.paging.direction_of.Tie as tie
+use borrow.Author.Tests.{eq-eqb, ne-eqb}
+use Rattle.bellrope.proofs.direction_of.Statement.{statement}
+use Rattle.bellrope.proofs.direction_of.Tie as tie
 
 returns : tie.Need-returns
 returns c = rw (eq-eqb (c .before .args .direction) 0 (c .if1 .taken))

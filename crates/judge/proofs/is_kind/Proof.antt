@@ -1,0 +1,47 @@
+-- `judge::is_kind` meets its contract.
+-- Assumes nothing.
+use mathlib.Core.Path.{sym, subst}
+use Rattle.bits.specs.Bit.{bitAt}
+use Rattle.frame.specs.Found.{KindOf}
+use Rattle.judge.proofs.HeldLaws.{kind-same}
+use borrow.Author.Needs.{needs}
+use Rattle.judge.proofs.is_kind.Statement.{statement}
+use Rattle.judge.proofs.is_kind.Tie as tie
+
+kind-of-requires : tie.Need-kind-of-requires
+kind-of-requires c κs = search needs
+
+enum-known-j : tie.Need-enum-known-j
+enum-known-j c = search needs
+
+number-requires : tie.Need-number-requires
+number-requires c κs = search needs
+
+number-requires-2 : tie.Need-number-requires-2
+number-requires-2 c κs = search needs
+
+enum-told : tie.Need-enum-told
+enum-told c = search needs
+
+returns : tie.Need-returns
+returns c =
+    let a = c .before .before .before .before .before .before .args in
+    let j = c .before .before .before .j .given .0 .0 in
+    rw (c .before .number .ensures, c .number2 .ensures) (kind-same (a .d) (bitAt (a .o)) j (a .k) (subst (KindOf (a .d) (bitAt (a .o))) (c .before .before .before .j .given .1) (c .before .before .before .before .before .kind-of .ensures)))
+
+returns-2 : tie.Need-returns-2
+returns-2 c =
+    let a = c .before .before .before .args in
+    sym (subst (KindOf (a .d) (bitAt (a .o))) (c .enum-told .given .1) (c .before .before .kind-of .ensures) (a .k))
+
+pub is-kind-spec : {M : Type 1} → statement M
+is-kind-spec =
+    tie.close
+    (tie.spec
+    kind-of-requires
+    enum-known-j
+    number-requires
+    number-requires-2
+    enum-told
+    returns
+    returns-2)

@@ -1,0 +1,55 @@
+-- `judge::is_record` meets its contract.
+-- Assumes nothing.
+use mathlib.Core.Path.{_≡_, _∙_, ap, subst}
+use mathlib.Core.List.{List}
+use Prim.Native.Nat.{ℕ}
+use native.Mathlib.Omega.{arith}
+use lib.ListN.{length, getD, List·getD-append}
+use Rattle.item.specs.Item.{itemOf}
+use Rattle.record.specs.Record.{sizeOf, recordOf}
+use Rattle.record.proofs.RecordLaws.{size-of, size-le, record-length}
+use Rattle.judge.specs.Held.{SameTo}
+use Rattle.judge.proofs.HeldLaws.{same-front}
+use borrow.Author.Needs.{needs}
+use Rattle.judge.proofs.is_record.Statement.{statement}
+use Rattle.judge.proofs.is_record.Tie as tie
+
+slice-aggregate-put : tie.Need-slice-aggregate-put
+slice-aggregate-put c = search needs
+
+put-requires : tie.Need-put-requires
+put-requires c κs = size-le (itemOf (c .before .before .args .i))
+
+slice-aggregate-begins : tie.Need-slice-aggregate-begins
+slice-aggregate-begins c = search needs
+
+size-requires : tie.Need-size-requires
+size-requires c κs = search needs
+
+begins-requires : tie.Need-begins-requires
+begins-requires c κs =
+    let e = c .size .ensures ∙ size-of (c .before .before .before .before .before .before .args .i) in
+    let l : length (c .before .before .before .put .last .0) ≡ 31 = search needs in
+    (omega (arith, e, l, size-le (itemOf (c .before .before .before .before .before .before .args .i))), omega (arith, e, c .before .before .before .before .before .before .pre))
+
+returns : tie.Need-returns
+returns c =
+    let x = itemOf (c .before .before .before .before .before .before .before .args .i) in
+    let part = c .before .before .before .before .before .before .before .args .part .now in
+    let anew = c .before .before .before .before .put .last .0 in
+    let e = c .before .size .ensures ∙ size-of (c .before .before .before .before .before .before .before .args .i) in
+    same-front (sizeOf x) anew part (recordOf x)
+    (λ j l. ap (λ (b : List ℕ). getD b j 0) (c .before .before .before .before .put .ensures) ∙ List·getD-append (recordOf x) _ 0 j (omega (arith, l, record-length x)))
+    (c .begins .result)
+    (subst (λ (n : ℕ). SameTo n anew part (c .begins .result)) e (c .begins .ensures))
+
+pub is-record-spec : {M : Type 1} → statement M
+is-record-spec =
+    tie.close
+    (tie.spec
+    slice-aggregate-put
+    put-requires
+    slice-aggregate-begins
+    size-requires
+    begins-requires
+    returns)

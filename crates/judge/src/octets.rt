@@ -1,0 +1,224 @@
+// The twenty octets of a frame, built from the bytes of its record: fixed bits, then control, extended and D bits at their places, then the parities.
+ghost use mathlib.Core.Path.{_≡_};
+ghost use Prim.Native.Nat.{_+_, _≤_, _<_};
+ghost use lib.ListN.{length, getD, drop};
+ghost use Rattle.bits.specs.Bit.{bitAt};
+ghost use Rattle.word.specs.Below.{Below};
+ghost use Rattle.put.specs.Put.{putPlaces};
+ghost use Rattle.channel.specs.Kinds.{patternOf};
+ghost use Rattle.channel.specs.Places.{dPlaces};
+ghost use Rattle.channel.specs.Control.{controlPlaces};
+ghost use Rattle.record.specs.Record.{dLength};
+ghost use Rattle.record.specs.Built.{fixedOctets, extendedPlaces, withParity, withC5, withXc6, withParities, octetsBy};
+use channel::Kind;
+use frame::places;
+
+// The fixed bits of the HR pattern, every other bit zero.
+const HR_FIXED: [u8; 20] = [
+    0,
+    128,
+    64,
+    128,
+    128,
+    128,
+    128,
+    128,
+    128,
+    128,
+    128,
+    128,
+    128,
+    128,
+    128,
+    128,
+    128,
+    128,
+    128,
+    128,
+];
+
+// The fixed bits of the Low pattern.
+const LOW_FIXED: [u8; 20] = [
+    0,
+    128,
+    128,
+    64,
+    128,
+    128,
+    128,
+    128,
+    128,
+    128,
+    128,
+    128,
+    128,
+    128,
+    128,
+    128,
+    128,
+    128,
+    128,
+    128,
+];
+
+// The fixed bits of the 6,70 pattern.
+const P670_FIXED: [u8; 20] = [
+    0,
+    128,
+    128,
+    128,
+    128,
+    0,
+    128,
+    0,
+    128,
+    0,
+    128,
+    0,
+    128,
+    0,
+    128,
+    0,
+    128,
+    0,
+    128,
+    0,
+];
+
+// The fixed bits of the 7,40 pattern.
+const P740_FIXED: [u8; 20] = [
+    32,
+    0,
+    128,
+    0,
+    0,
+    0,
+    0,
+    0,
+    0,
+    0,
+    0,
+    0,
+    0,
+    0,
+    0,
+    0,
+    0,
+    0,
+    0,
+    0,
+];
+
+// The fixed bits of a kind's pattern, every other bit zero.
+fn fixed(k: Kind) -> [u8; 20]
+    ensures { λ r. ⌜ r ≡ fixedOctets (patternOf k) ⌝ }
+{
+    match k {
+        Kind::Speech => HR_FIXED,
+        Kind::Data => HR_FIXED,
+        Kind::Om => HR_FIXED,
+        Kind::Configuration => HR_FIXED,
+        Kind::NoSpeech => LOW_FIXED,
+        Kind::Lower => LOW_FIXED,
+        Kind::Amr670 => P670_FIXED,
+        Kind::Amr740 => P740_FIXED,
+    }
+}
+
+// The bits of a control byte at their places.
+fn with_control(o: [u8; 20], k: Kind, control: &[u8]) -> [u8; 20]
+    requires { ⌜ 1 ≤ length (now control) ⌝ }
+    ensures { λ r. ⌜ r ≡ putPlaces o (controlPlaces k) (bitAt (now (control .entry))) 0 ⌝ }
+{
+    match k {
+        Kind::Speech => put::at_places(o, &places::SPEECH_CONTROL, control),
+        Kind::Data => put::at_places(o, &places::HR_CONTROL, control),
+        Kind::Om => put::at_places(o, &places::HR_CONTROL, control),
+        Kind::Configuration => put::at_places(o, &places::HR_CONTROL, control),
+        Kind::NoSpeech => put::at_places(o, &places::LOW_C, control),
+        Kind::Lower => put::at_places(o, &places::LOW_C, control),
+        Kind::Amr670 => put::at_places(o, &places::AMR_C, control),
+        Kind::Amr740 => put::at_places(o, &places::AMR_C, control),
+    }
+}
+
+// The bits of an extended byte at their places.
+fn with_extended(o: [u8; 20], k: Kind, extended: &[u8]) -> [u8; 20]
+    requires { ⌜ 1 ≤ length (now extended) ⌝ }
+    ensures { λ r. ⌜ r ≡ putPlaces o (extendedPlaces k) (bitAt (now (extended .entry))) 0 ⌝ }
+{
+    match k {
+        Kind::Speech => put::at_places(o, &places::SPEECH_EXTENDED, extended),
+        Kind::Data => o,
+        Kind::Om => put::at_places(o, &places::XC1_TO_5, extended),
+        Kind::Configuration => o,
+        Kind::NoSpeech => o,
+        Kind::Lower => o,
+        Kind::Amr670 => o,
+        Kind::Amr740 => o,
+    }
+}
+
+// The D bits at their places.
+fn with_d(o: [u8; 20], k: Kind, d: &[u8]) -> [u8; 20]
+    requires { ⌜ dLength k ≤ length (now d) ⌝ }
+    ensures { λ r. ⌜ r ≡ putPlaces o (dPlaces k) (bitAt (now (d .entry))) 0 ⌝ }
+{
+    let places = dbits::table();
+    let from = dbits::d_from(k);
+    let to = from + dbits::d_count(k);
+    put::at_places(o, &places[from..to], d)
+}
+
+// The parity of the bits at some places, by the count of ones, at a place of its own.
+fn with_parity(o: [u8; 20], places: &[u8], p: usize) -> [u8; 20]
+    requires { ⌜ Below 160 (now places) × (length (now places) ≤ 8) × (p < 160) ⌝ }
+    ensures { λ r. ⌜ r ≡ withParity (now (places .entry)) p o ⌝ }
+{
+    let odd = word::odd_ones(word::packed(o, places));
+    let mut held = o;
+    put::put_bit(&mut held, p, !odd);
+    held
+}
+
+// C5, of C1..C4.
+fn with_c5(o: [u8; 20]) -> [u8; 20]
+    ensures { λ r. ⌜ r ≡ withC5 o ⌝ }
+{
+    with_parity(o, &places::HR_CONTROL, 13)
+}
+
+// XC6, of XC1..XC5.
+fn with_xc6(o: [u8; 20]) -> [u8; 20]
+    ensures { λ r. ⌜ r ≡ withXc6 o ⌝ }
+{
+    with_parity(o, &places::XC1_TO_5, 21)
+}
+
+// The parities of a kind.
+fn with_parities(o: [u8; 20], k: Kind) -> [u8; 20]
+    ensures { λ r. ⌜ r ≡ withParities k o ⌝ }
+{
+    match k {
+        Kind::Speech => with_xc6(with_c5(o)),
+        Kind::Data => with_c5(o),
+        Kind::Om => with_xc6(with_c5(o)),
+        Kind::Configuration => with_c5(o),
+        Kind::NoSpeech => o,
+        Kind::Lower => o,
+        Kind::Amr670 => o,
+        Kind::Amr740 => o,
+    }
+}
+
+// The octets of a frame of a kind, by the bytes of its record.
+pub fn octets_by(part: &[u8], k: Kind) -> [u8; 20]
+    requires { ⌜ 12 + dLength k ≤ length (now part) ⌝ }
+    ensures { λ r. ⌜ r ≡ octetsBy k (getD (now (part .entry)) 9 0) (getD (now (part .entry)) 10 0) (drop 12 (now (part .entry))) ⌝ }
+{
+    let fixed = fixed(k);
+    let coded = with_control(fixed, k, &part[9..10]);
+    let extended = with_extended(coded, k, &part[10..11]);
+    let full = with_d(extended, k, &part[12..]);
+    with_parities(full, k)
+}
