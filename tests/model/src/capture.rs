@@ -15,16 +15,20 @@ pub struct Capture {
 impl Capture {
     /// The first `n` bits of `bytes`; the top bit of the first byte was sent first.
     pub fn new(bytes: &[u8], n: usize, direction: usize) -> Capture {
-        let bits = (0..n).map(|i| bytes[i / 8] & (0x80 >> (i % 8)) != 0);
-        Capture {
-            bits: bits.collect(),
-            direction,
-        }
+        let mut bits = unpack(&bytes[..n.div_ceil(8)]);
+        bits.truncate(n);
+        Capture { bits, direction }
     }
 
     pub fn n(&self) -> usize {
         self.bits.len()
     }
+}
+
+/// The bits of bytes, the top bit of the first byte first.
+pub fn unpack(bytes: &[u8]) -> Vec<bool> {
+    let bits = (0..8 * bytes.len()).map(|i| bytes[i / 8] & (0x80 >> (i % 8)) != 0);
+    bits.collect()
 }
 
 /// Bits packed into bytes, the first at the top; the last byte is filled with zeros.

@@ -1,6 +1,7 @@
 //! The client process at the other end of two pipes, which calls the library.
 
-use model::page::{Answer, Request};
+use model::answer::Answer;
+use model::page::Request;
 use std::io::{Error, Read, Write};
 use std::process::{Child, ChildStdin, ChildStdout, Command, Stdio};
 

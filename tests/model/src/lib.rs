@@ -1,11 +1,17 @@
-//! The model: what the specification says of frames, readings, records and pages, by brute force.
+//! The model: what the specification says of frames, readings, records, pages and writing, by
+//! brute force.
 //! It is written from the specification alone and shares nothing with the library.
 
+pub mod answer;
 pub mod capture;
+pub mod causes;
 pub mod crc;
 pub mod drawings;
 pub mod families;
+pub mod fields;
 pub mod frame;
+pub mod inverse;
+pub mod judge;
 pub mod kinds;
 pub mod make;
 pub mod page;
@@ -14,3 +20,7 @@ pub mod record;
 pub mod requests;
 pub mod rng;
 pub mod rules;
+pub mod spoil;
+pub mod stretches;
+pub mod sweeps;
+pub mod write;

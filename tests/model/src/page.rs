@@ -1,5 +1,6 @@
 //! Paging: the refusals in their order, or the longest leading part of the reading that fits.
 
+use crate::answer::Answer;
 use crate::capture::{Capture, LONGEST};
 use crate::reading::{reading, Cursor, Item};
 use crate::record::record;
@@ -14,16 +15,6 @@ pub struct Request {
     pub context: u64,
     pub most: u64,
     pub buffer: Vec<u8>,
-}
-
-#[derive(Clone, Copy, Debug, PartialEq)]
-pub struct Answer {
-    pub number: u64,
-    pub index: u64,
-    pub items: u64,
-    pub bytes: u64,
-    pub position: u64,
-    pub context: u64,
 }
 
 #[derive(Clone, Copy, Debug, PartialEq, Eq, PartialOrd, Ord)]
@@ -134,14 +125,7 @@ pub fn page_of(request: &Request, capture: &Capture) -> Page {
 
 fn refusal(request: &Request, number: u64, causes: Vec<Cause>) -> Page {
     Page {
-        answer: Answer {
-            number,
-            index: 0,
-            items: 0,
-            bytes: 0,
-            position: request.position,
-            context: request.context,
-        },
+        answer: Answer::refusal(number, 0, request.position, request.context),
         buffer: request.buffer.clone(),
         items: Vec::new(),
         causes,

@@ -53,8 +53,8 @@ impl Lent {
         self.bytes.len() > LONGEST
     }
 
-    /// A request that no number refuses: any cursor, any count, any buffer.
-    pub fn request(&self, rng: &mut Rng) -> Request {
+    /// Any cursor, often where something begins or ends.
+    pub fn cursor(&self, rng: &mut Rng) -> Cursor {
         let n = self.capture.n();
         let position = match rng.below(8) {
             0 | 1 => 0,
@@ -66,10 +66,13 @@ impl Lent {
             4 if rng.once_in(4) => n,
             _ => rng.of(&self.borders),
         };
-        let cursor = Cursor {
-            position,
-            context: rng.below(6) as u64,
-        };
+        let context = rng.below(6) as u64;
+        Cursor { position, context }
+    }
+
+    /// A request that no number refuses: any cursor, any count, any buffer.
+    pub fn request(&self, rng: &mut Rng) -> Request {
+        let cursor = self.cursor(rng);
         let other_way = rng.once_in(8);
         let direction = self.capture.direction ^ usize::from(other_way);
         let length = self.buffer_length(rng, cursor);
@@ -80,9 +83,9 @@ impl Lent {
         };
         Request {
             capture: self.bytes.clone(),
-            n: n as u64,
+            n: self.capture.n() as u64,
             direction: direction as u64,
-            position: position as u64,
+            position: cursor.position as u64,
             context: cursor.context,
             most: most(rng),
             buffer,

@@ -1,0 +1,25 @@
+//! The answer of a call: six numbers.
+
+#[derive(Clone, Copy, Debug, PartialEq)]
+pub struct Answer {
+    pub number: u64,
+    pub index: u64,
+    pub items: u64,
+    pub bytes: u64,
+    pub position: u64,
+    pub context: u64,
+}
+
+impl Answer {
+    /// A refusal: 0 items, 0 bytes, the cursor as given.
+    pub fn refusal(number: u64, index: u64, position: u64, context: u64) -> Answer {
+        Answer {
+            number,
+            index,
+            items: 0,
+            bytes: 0,
+            position,
+            context,
+        }
+    }
+}
