@@ -1,9 +1,10 @@
 /* The client of the comparison: reads requests on standard input, makes each call with the lent bytes flush against a protected page, and writes the
  * answer, what changed that must stand, and the whole buffer. It judges nothing else.
  *
- * A request is ten 64-bit numbers (call, placement, guard, capture length, n, direction, position, context, most, buffer length), then the capture and
- * the buffer as it is before the call. The call is 1 for paging; other numbers are free for later calls. Placement: bit 0 set puts the capture at the
- * end of its pages, bit 1 the buffer; clear, at their start. A reply is the six numbers of the answer, a number of flags, and the buffer. */
+ * A request is ten 64-bit numbers (call, placement, guard, input length, n, direction, position, context, most, buffer length), then the input and the
+ * buffer as it is before the call. Call 1 is paging, and its input the capture. Call 2 is writing, and its input the records; it takes neither n nor most,
+ * which are 0. Other numbers are free for later calls. Placement: bit 0 set puts the input at the end of its pages, bit 1 the buffer; clear, at their
+ * start. A reply is the six numbers of the answer, a number of flags, and the buffer. */
 #define _GNU_SOURCE
 #include <stdint.h>
 #include <stdio.h>
@@ -15,9 +16,11 @@
 typedef struct { uint64_t number, index, items, bytes, position, context; } bellrope_answer;
 bellrope_answer bellrope_page(const uint8_t *capture, size_t capture_len, uint64_t n, uint64_t direction, uint64_t position, uint64_t context,
                               uint64_t most, uint8_t *buffer, size_t buffer_len);
+bellrope_answer bellrope_write(const uint8_t *records, size_t records_len, uint64_t direction, uint64_t position, uint64_t context, uint8_t *buffer,
+                               size_t buffer_len);
 
-enum { CALL_PAGE = 1 };
-enum { CAPTURE_CHANGED = 1, CAPTURE_GUARD_CHANGED = 2, BUFFER_GUARD_CHANGED = 4 };
+enum { CALL_PAGE = 1, CALL_WRITE = 2 };
+enum { INPUT_CHANGED = 1, INPUT_GUARD_CHANGED = 2, BUFFER_GUARD_CHANGED = 4 };
 
 #define LARGEST ((size_t)4 << 20)
 
@@ -81,33 +84,45 @@ static void give(const void *from, size_t len) {
 	if (fwrite(from, 1, len, stdout) != len) fail("client: write");
 }
 
+/* The request is known: the call, what it takes, and lengths that there is room for. */
+static int known(const uint64_t r[10]) {
+	if (r[3] > LARGEST || r[9] > LARGEST) return 0;
+	return r[0] == CALL_PAGE || (r[0] == CALL_WRITE && r[4] == 0 && r[8] == 0);
+}
+
+static bellrope_answer call(const uint64_t r[10], const arena *in, const arena *b) {
+	uint64_t n = r[4], direction = r[5], position = r[6], context = r[7], most = r[8];
+	if (r[0] == CALL_PAGE) return bellrope_page(in->lent, in->len, n, direction, position, context, most, b->lent, b->len);
+	return bellrope_write(in->lent, in->len, direction, position, context, b->lent, b->len);
+}
+
 int main(void) {
-	static uint8_t capture[LARGEST], buffer[LARGEST];
-	arena captures[2], buffers[2];
+	static uint8_t input[LARGEST], buffer[LARGEST];
+	arena inputs[2], buffers[2];
 	uint64_t r[10];
 	page_size = (size_t)sysconf(_SC_PAGESIZE);
 	for (int i = 0; i < 2; i++) {
-		arena_make(&captures[i], i);
+		arena_make(&inputs[i], i);
 		arena_make(&buffers[i], i);
 	}
 	while (take(r, sizeof r)) {
-		uint64_t placement = r[1], n = r[4], direction = r[5], position = r[6], context = r[7], most = r[8];
-		uint8_t guard = (uint8_t)r[2];
-		size_t capture_len = r[3], buffer_len = r[9];
-		arena *c = &captures[placement & 1], *b = &buffers[placement >> 1 & 1];
-		if (r[0] != CALL_PAGE || capture_len > LARGEST || buffer_len > LARGEST) {
+		if (!known(r)) {
 			fprintf(stderr, "client: a request that it does not know\n");
 			return 2;
 		}
-		if ((capture_len && !take(capture, capture_len)) || (buffer_len && !take(buffer, buffer_len))) return 2;
-		arena_lend(c, capture, capture_len, guard);
+		uint64_t placement = r[1];
+		uint8_t guard = (uint8_t)r[2];
+		size_t input_len = r[3], buffer_len = r[9];
+		arena *in = &inputs[placement & 1], *b = &buffers[placement >> 1 & 1];
+		if ((input_len && !take(input, input_len)) || (buffer_len && !take(buffer, buffer_len))) return 2;
+		arena_lend(in, input, input_len, guard);
 		arena_lend(b, buffer, buffer_len, guard);
 
-		bellrope_answer answer = bellrope_page(c->lent, capture_len, n, direction, position, context, most, b->lent, buffer_len);
+		bellrope_answer answer = call(r, in, b);
 
 		uint64_t flags = 0;
-		if (memcmp(c->lent, capture, capture_len)) flags |= CAPTURE_CHANGED;
-		if (!guards_stand(c, guard)) flags |= CAPTURE_GUARD_CHANGED;
+		if (memcmp(in->lent, input, input_len)) flags |= INPUT_CHANGED;
+		if (!guards_stand(in, guard)) flags |= INPUT_GUARD_CHANGED;
 		if (!guards_stand(b, guard)) flags |= BUFFER_GUARD_CHANGED;
 		give(&answer, sizeof answer);
 		give(&flags, sizeof flags);

@@ -1,7 +1,7 @@
 //! The client process at the other end of two pipes, which calls the library.
 
 use model::answer::Answer;
-use model::page::Request;
+use model::{page, write};
 use std::io::{Error, Read, Write};
 use std::process::{Child, ChildStdin, ChildStdout, Command, Stdio};
 
@@ -11,8 +11,8 @@ pub struct Client {
     from: ChildStdout,
 }
 
-/// What the client gives back. Flags: 1 the capture changed, 2 a guard byte around it, 4 a guard
-/// byte around the buffer.
+/// What the client gives back. Flags: 1 the capture or the records changed, 2 a guard byte around
+/// them, 4 a guard byte around the buffer.
 #[derive(Clone, Debug, PartialEq)]
 pub struct Reply {
     pub answer: Answer,
@@ -20,8 +20,9 @@ pub struct Reply {
     pub buffer: Vec<u8>,
 }
 
-/// The number of the call in the client's protocol.
+/// The numbers of the calls in the client's protocol.
 const CALL_PAGE: u64 = 1;
+const CALL_WRITE: u64 = 2;
 
 impl Client {
     pub fn start(command: &[String]) -> Result<Client, Error> {
@@ -35,33 +36,40 @@ impl Client {
         Ok(Client { child, to, from })
     }
 
-    /// Makes one call. Placement and guard byte are any numbers.
-    pub fn page(&mut self, request: &Request, place: u64, guard: u64) -> Result<Reply, String> {
-        self.try_page(request, place, guard).map_err(|error| {
+    /// Makes one call of paging. Placement and guard byte are any numbers.
+    pub fn page(&mut self, r: &page::Request, place: u64, guard: u64) -> Result<Reply, String> {
+        let numbers = [r.n, r.direction, r.position, r.context, r.most];
+        self.call([CALL_PAGE, place, guard], &r.capture, numbers, &r.buffer)
+    }
+
+    /// Makes one call of writing, which takes neither n nor most.
+    pub fn write(&mut self, r: &write::Request, place: u64, guard: u64) -> Result<Reply, String> {
+        let numbers = [0, r.direction, r.position, r.context, 0];
+        self.call([CALL_WRITE, place, guard], &r.records, numbers, &r.buffer)
+    }
+
+    fn call(
+        &mut self,
+        how: [u64; 3],
+        input: &[u8],
+        numbers: [u64; 5],
+        buffer: &[u8],
+    ) -> Result<Reply, String> {
+        let lengths = [input.len() as u64, buffer.len() as u64];
+        let head = [&how[..], &lengths[..1], &numbers[..], &lengths[1..]].concat();
+        self.try_call(&head, input, buffer).map_err(|error| {
             let end = self.child.wait();
             format!("the client ended within the call ({error}; {end:?})")
         })
     }
 
-    fn try_page(&mut self, request: &Request, place: u64, guard: u64) -> Result<Reply, Error> {
-        let head = [
-            CALL_PAGE,
-            place,
-            guard,
-            request.capture.len() as u64,
-            request.n,
-            request.direction,
-            request.position,
-            request.context,
-            request.most,
-            request.buffer.len() as u64,
-        ];
+    fn try_call(&mut self, head: &[u64], input: &[u8], buffer: &[u8]) -> Result<Reply, Error> {
         let mut message: Vec<u8> = head
             .iter()
             .flat_map(|number| number.to_le_bytes())
             .collect();
-        message.extend(&request.capture);
-        message.extend(&request.buffer);
+        message.extend(input);
+        message.extend(buffer);
         self.to.write_all(&message)?;
         self.to.flush()?;
         let mut numbers = [0; 7 * 8];
@@ -70,8 +78,8 @@ impl Client {
             let eight = numbers[8 * i..8 * i + 8].try_into();
             u64::from_le_bytes(eight.expect("eight bytes"))
         };
-        let mut buffer = vec![0; request.buffer.len()];
-        self.from.read_exact(&mut buffer)?;
+        let mut after = vec![0; buffer.len()];
+        self.from.read_exact(&mut after)?;
         let answer = Answer {
             number: number(0),
             index: number(1),
@@ -83,7 +91,7 @@ impl Client {
         Ok(Reply {
             answer,
             flags: number(6),
-            buffer,
+            buffer: after,
         })
     }
 }

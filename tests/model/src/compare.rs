@@ -1,15 +1,11 @@
 //! The comparison: the library, called through the client, against the model.
 
 use crate::client::{Client, Reply};
-use crate::coverage::Coverage;
-use model::capture::LONGEST;
+use crate::coverage::Counts;
+use model::answer::Answer;
 use model::families;
-use model::page::{page, page_of, Page, Request};
-use model::reading::{reading, Cursor, Item};
-use model::record::record;
-use model::requests::{nonsense, twin, Lent};
+use model::requests::Lent;
 use model::rng::Rng;
-use model::rules;
 
 /// Why a comparison stops.
 pub enum Stop {
@@ -21,164 +17,80 @@ pub enum Stop {
 
 pub struct Comparison {
     pub client: Client,
-    pub coverage: Coverage,
+    pub paging: Counts,
+    pub writing: Counts,
     pub calls: u64,
 }
 
+/// In how many cases there is one sweep. The default run makes each sweep once at least.
+const SWEEP_EACH: u64 = 16;
+
 impl Comparison {
-    /// One case: a capture, some requests, sometimes a harvest; then the rules on the model's own
-    /// reading.
+    pub fn new(client: Client) -> Comparison {
+        Comparison {
+            client,
+            paging: Counts::default(),
+            writing: Counts::default(),
+            calls: 0,
+        }
+    }
+
+    /// One case: a capture, requests of paging for it, and requests of writing.
     pub fn case(&mut self, seed: u64, case: u64) -> Result<(), Stop> {
         let mut rng = Rng::new(seed, case);
         let made = families::make(&mut rng);
-        self.coverage.add(&format!("{:?}", made.family));
+        self.paging.add(&format!("{:?}", made.family));
         let lent = Lent::new(&mut rng, made);
-        for _ in 0..8 {
-            let mut request = lent.request(&mut rng);
-            if rng.once_in(5) {
-                nonsense(&mut rng, &mut request);
-            }
-            let expected = page(&request);
-            let reply = self.call(&mut rng, &request, &expected)?;
-            if request.n <= 8 * request.capture.len() as u64 && rng.once_in(3) {
-                let twin = twin(&mut rng, &request);
-                let other = self.call(&mut rng, &twin, &expected)?;
-                self.coverage.add("twin");
-                if other != reply {
-                    return Err(difference(&twin, &expected, Ok(&other)));
-                }
-            }
-        }
-        if lent.too_long() {
-            return Ok(());
-        }
-        if rng.once_in(3) || lent.bytes.len() == LONGEST {
-            self.harvest(&mut rng, &lent)?;
-        }
-        let mut cursors = vec![Cursor {
-            position: 0,
-            context: 0,
-        }];
-        if lent.capture.n() < 10_000 {
-            let position = rng.below(lent.capture.n() + 1);
-            let context = rng.below(6) as u64;
-            cursors.push(Cursor { position, context });
-        }
-        for cursor in cursors {
-            let items: Vec<Item> = reading(&lent.capture, cursor).collect();
-            rules::check(&lent.capture, cursor, &items).map_err(Stop::Model)?;
-        }
-        Ok(())
-    }
-
-    /// Pages of random sizes from bit 0 in context 0, joined and compared with the whole reading.
-    fn harvest(&mut self, rng: &mut Rng, lent: &Lent) -> Result<(), Stop> {
-        let capture = &lent.capture;
-        let start = Cursor {
-            position: 0,
-            context: 0,
-        };
-        let whole: Vec<u8> = reading(capture, start)
-            .flat_map(|item| record(&item))
-            .collect();
-        let largest = match capture.n() < 10_000 {
-            true => rng.of(&[40, 80, 300, 3_000]),
-            false => rng.of(&[3_000, 100_000]),
-        };
-        let mut joined: Vec<u8> = Vec::new();
-        let mut request = Request {
-            capture: lent.bytes.clone(),
-            n: capture.n() as u64,
-            direction: capture.direction as u64,
-            position: 0,
-            context: 0,
-            most: 1,
-            buffer: Vec::new(),
-        };
-        loop {
-            request.most = rng.of(&[1, 2, 5, 50, u64::MAX]);
-            request.buffer = vec![rng.draw() as u8; rng.below(largest + 1)];
-            let expected = page_of(&request, capture);
-            let answer = self.call(rng, &request, &expected)?;
-            joined.extend(&answer.buffer[..answer.answer.bytes as usize]);
-            request.position = answer.answer.position;
-            request.context = answer.answer.context;
-            if answer.answer.number == 0 && answer.answer.items == 0 {
-                break;
-            }
-        }
-        self.coverage.add("harvest");
-        if lent.bytes.len() == LONGEST {
-            self.coverage.add("full harvest");
-        }
-        match joined == whole && request.position == request.n {
-            true => Ok(()),
-            false => Err(Stop::Difference(
-                "a harvest is not the whole reading".to_string(),
-            )),
+        self.page_case(&mut rng, &lent)?;
+        self.write_case(&mut rng, &lent)?;
+        match case % SWEEP_EACH {
+            0 => self.sweep(&mut rng, case / SWEEP_EACH),
+            _ => Ok(()),
         }
     }
+}
 
-    /// Makes one call and compares every number and every byte.
-    fn call(&mut self, rng: &mut Rng, request: &Request, expected: &Page) -> Result<Reply, Stop> {
-        self.calls += 1;
-        let reply = self.client.page(request, rng.draw() & 3, rng.draw() & 255);
-        self.coverage.page(request, expected);
-        match reply {
-            Err(error) => Err(difference(request, expected, Err(&error))),
+/// What the model expects of a call, and what the library did.
+pub struct Pair<'a> {
+    pub answer: &'a Answer,
+    pub buffer: &'a [u8],
+    pub got: Result<&'a Reply, &'a String>,
+}
+
+impl Pair<'_> {
+    /// Every number and every byte is as it should be.
+    pub fn same(&self) -> bool {
+        self.got.is_ok_and(|reply| {
+            reply.answer == *self.answer && reply.buffer == self.buffer && reply.flags == 0
+        })
+    }
+
+    /// Both sides in full, behind lines that say what was asked.
+    pub fn difference(&self, mut lines: Vec<String>) -> Stop {
+        lines.push(format!("model:   {:?}", self.answer));
+        match self.got {
+            Err(error) => lines.push(format!("library: {error}")),
             Ok(reply) => {
-                let same = reply.answer == expected.answer && reply.buffer == expected.buffer;
-                match same && reply.flags == 0 {
-                    true => Ok(reply),
-                    false => Err(difference(request, expected, Ok(&reply))),
+                let (answer, flags) = (reply.answer, reply.flags);
+                lines.push(format!("library: {answer:?}, flags {flags}"));
+                lines.push(format!("model's buffer after:   {}", hex(self.buffer)));
+                lines.push(format!("library's buffer after: {}", hex(&reply.buffer)));
+                let mut bytes = self.buffer.iter().zip(&reply.buffer);
+                if let Some(at) = bytes.position(|(one, other)| one != other) {
+                    lines.push(format!("the buffers differ first at byte {at}"));
                 }
             }
         }
+        Stop::Difference(lines.join("\n"))
     }
 }
 
-/// A request, what the model expects and what the library did, in full.
-fn difference(request: &Request, expected: &Page, got: Result<&Reply, &String>) -> Stop {
-    let mut lines = vec![
-        format!(
-            "capture ({} bytes): {}",
-            request.capture.len(),
-            hex(&request.capture)
-        ),
-        format!("n {}", request.n),
-        format!("direction {}", request.direction),
-        format!("position {}", request.position),
-        format!("context {}", request.context),
-        format!("most {}", request.most),
-        format!(
-            "buffer before ({} bytes): {}",
-            request.buffer.len(),
-            hex(&request.buffer)
-        ),
-        format!("model:   {:?}", expected.answer),
-    ];
-    match got {
-        Err(error) => lines.push(format!("library: {error}")),
-        Ok(reply) => {
-            lines.push(format!(
-                "library: {:?}, flags {}",
-                reply.answer, reply.flags
-            ));
-            lines.push(format!("model's buffer after:   {}", hex(&expected.buffer)));
-            lines.push(format!("library's buffer after: {}", hex(&reply.buffer)));
-            let mut bytes = expected.buffer.iter().zip(&reply.buffer);
-            if let Some(at) = bytes.position(|(one, other)| one != other) {
-                lines.push(format!("the buffers differ first at byte {at}"));
-            }
-        }
-    }
-    for item in &expected.items {
-        lines.push(format!("model's item: {item:?}"));
-    }
-    Stop::Difference(lines.join("\n"))
+/// Bytes with their count.
+pub fn bytes(name: &str, bytes: &[u8]) -> String {
+    format!("{name} ({} bytes): {}", bytes.len(), hex(bytes))
 }
 
-fn hex(bytes: &[u8]) -> String {
+pub fn hex(bytes: &[u8]) -> String {
     let digits = bytes.iter().take(4_096).map(|byte| format!("{byte:02X}"));
     let more = if bytes.len() > 4_096 { ".." } else { "" };
     digits.collect::<String>() + more

@@ -4,11 +4,14 @@
 
 mod client;
 mod compare;
+mod compare_page;
+mod compare_write;
 mod coverage;
+mod coverage_page;
+mod coverage_write;
 
 use client::Client;
 use compare::{Comparison, Stop};
-use coverage::Coverage;
 use std::process::ExitCode;
 use std::time::Instant;
 
@@ -59,11 +62,7 @@ fn main() -> ExitCode {
 
 fn compare(options: &Options, client: Client) -> ExitCode {
     let begin = Instant::now();
-    let mut comparison = Comparison {
-        client,
-        coverage: Coverage::default(),
-        calls: 0,
-    };
+    let mut comparison = Comparison::new(client);
     let mut case = options.only.unwrap_or(0);
     while comparison.calls < options.calls {
         if let Err(stop) = comparison.case(options.seed, case) {
@@ -83,8 +82,10 @@ fn compare(options: &Options, client: Client) -> ExitCode {
             return ExitCode::SUCCESS;
         }
     }
-    let (line, never) = comparison.coverage.line();
-    println!("{line}");
+    let (paging, never_paging) = coverage_page::line(&comparison.paging);
+    let (writing, never_writing) = coverage_write::line(&comparison.writing);
+    println!("{paging}\n{writing}");
+    let never = [never_paging, never_writing].concat();
     let calls = comparison.calls;
     let seconds = begin.elapsed().as_secs();
     println!(
