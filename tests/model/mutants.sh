@@ -1,9 +1,9 @@
 #!/bin/sh
-# tests/model/mutants.sh: breaks a copy of the model in many ways, one at a time; the comparison must notice each. Run tests/compare first: it builds the
-# client. It takes some minutes and is no part of the gate.
+# tests/model/mutants.sh: breaks a copy of the model in many ways, one at a time; the comparison must notice each, without the help of the model's checks
+# of itself. Run tests/compare first: it builds the client. It takes some minutes and is no part of the gate.
 set -eu
 cd "$(dirname "$0")/../.."
-client=target/client/client
+client=target/client/run
 calls=${1:-20000}
 copy=target/mutants/model
 log=target/mutants/log
@@ -31,7 +31,7 @@ mutant() {
 		echo "mutants: '$1' does not build: mend its sed." >&2
 		exit 2
 	fi
-	if "$CARGO_TARGET_DIR/release/model" compare --calls "$calls" --seed 7 --client "$client" >"$log" 2>&1; then
+	if "$CARGO_TARGET_DIR/release/model" compare --calls "$calls" --seed 7 --no-own-checks --client "$client" >"$log" 2>&1; then
 		status=0
 	else
 		status=$?
@@ -45,6 +45,7 @@ mutant() {
 	fi
 }
 
+# Frames, readings, records and pages.
 mutant "parity of C even" frame.rs 's/crc::odd(&c\[..5\])/!&/'
 mutant "parity of XC even" frame.rs 's/crc::odd(xc)/!&/'
 mutant "C4 of zero in uplink" frame.rs 's/direction != UPLINK || c4;/c4 || !c4;/'
@@ -81,6 +82,58 @@ mutant "cursor at n refused" page.rs 's/request.position > request.n/request.pos
 mutant "65,536 bytes refused" page.rs 's/length > LONGEST/length >= LONGEST/'
 mutant "refusals in the other order" page.rs 's/cause.number()).min()/cause.number()).max()/'
 mutant "numbers of 32 bits" page.rs 's/request.context > 5/request.context as u32 > 5/'
+# Writing: the numbers of a request.
+mutant "65,536 bytes of records refused" write.rs 's/records.len() > MOST/records.len() >= MOST/'
+mutant "65,536 bytes of writing buffer refused" write.rs 's/buffer.len() > LONGEST/buffer.len() >= LONGEST/'
+mutant "cursor at the end of the buffer refused" write.rs 's/request.position > bits/request.position >= bits/'
+mutant "writing: position of 32 bits" write.rs 's/request.position > bits/request.position as u32 as u64 > bits/'
+mutant "writing: context of 32 bits" write.rs 's/request.context > 5/request.context as u32 > 5/'
+# Writing: what an answer says.
+mutant "3 before 1 and 2" causes.rs 's/\[1, 2, 3, 5, 6, 4\]/[3, 1, 2, 5, 6, 4]/'
+mutant "6 before 5" causes.rs 's/\[1, 2, 3, 5, 6, 4\]/[1, 2, 3, 6, 5, 4]/'
+mutant "4 before 6" causes.rs 's/\[1, 2, 3, 5, 6, 4\]/[1, 2, 3, 5, 4, 6]/'
+mutant "4 before 5" causes.rs 's/\[1, 2, 3, 5, 6, 4\]/[1, 2, 3, 4, 5, 6]/'
+mutant "5 of a later record before 4" write.rs '/let causes = judge/a if first(\&causes) == Some(4) { let next = \&rest[length(rest[0] as usize)..]; if next.first().is_some_and(|kind| *kind > 8) { return refusal(request, 1 + frames.len() as u64, vec![Cause::UnknownKind]); } }'
+mutant "index from 1" write.rs 's/refusal(request, frames.len() as u64,/refusal(request, frames.len() as u64 + 1,/'
+mutant "no index" write.rs 's/refusal(request, frames.len() as u64,/refusal(request, 0,/'
+mutant "a refusal answers the cursor reached" write.rs 's/return refusal(request, frames/let position = cursor.position as u64; let request = \&Request { position, ..request.clone() }; &/'
+mutant "sound records before a refusal written" write.rs 's/return \(refusal(request, frames.*causes)\);/return Written { buffer: pack(\&bits), ..\1 };/'
+mutant "writing answers bytes" write.rs 's/bytes: 0,/bytes: request.records.len() as u64,/'
+# Writing: which records are sound.
+mutant "a gap is 6" causes.rs 's/(Cause::Gap, 5)/(Cause::Gap, 6)/'
+mutant "a record one byte short is 4" causes.rs 's/(Cause::OneByteShort, 5)/(Cause::OneByteShort, 4)/'
+mutant "a bit of control unjudged" judge.rs 's/5 | 6 => 0x07/5 | 6 => 0x03/'
+mutant "a bit of extended unjudged" judge.rs 's/3 => 0x07/3 => 0x05/'
+mutant "only the first bit of padding judged" judge.rs 's/fields.padding.contains(&true)/fields.padding.first() == Some(\&true)/'
+mutant "configuration with C4 of zero written in uplink" judge.rs 's/number <= 4 \&\& up/number <= 3 \&\& up/'
+mutant "No_Speech of 101 refused" judge.rs 's/\[0b100, 0b101\]/[0b100]/'
+mutant "No_Speech with C5 written" judge.rs 's/(c4 || c5_of_low)/c4/'
+mutant "lower speech without C4 refused" judge.rs 's/number == 6 \&\& !c4 \&\& !c5_of_low/number == 6 \&\& !c4/'
+mutant "reserved XC written in uplink" judge.rs 's/0..=3 | 8..=15/0..=15/'
+mutant "reserved XC written in downlink" judge.rs 's/(xc, 0 | 2)/(xc, 0..=2)/'
+mutant "XC of O&M unjudged in its last bit" judge.rs 's/xc != 31/xc < 30/'
+mutant "least tail of the other direction" judge.rs 's/least_tail\[direction\]/least_tail[1 - direction]/'
+# Writing: which frames are due.
+mutant "start judged under 5" causes.rs 's/(Cause::Start, 6)/(Cause::Start, 5)/'
+mutant "verdict judged under 5" causes.rs 's/(Cause::Verdict, 6)/(Cause::Verdict, 5)/'
+mutant "bit 6 of the verdict unjudged" judge.rs 's/fields.verdict != verdict/fields.verdict \& 0xBF != verdict/'
+mutant "a lower frame with a wrong CRC starts a run" judge.rs 's/searching \&\& wrong)/searching \&\& wrong \&\& number != 6)/'
+mutant "an unchecked kind 6 starts a run" judge.rs 's/searching \&\& unchecked_6)/searching \&\& unchecked_6 \&\& number == 5)/'
+mutant "an unchecked kind 5 starts none" judge.rs 's/let unchecked_6 = .*/let unchecked_6 = frame.unchecked(0);/'
+mutant "7,40 written after HR" judge.rs 's/cursor.context == 1 \&\& number == 8/cursor.context == 6 \&\& number == 8/'
+mutant "context of the first record for all" write.rs 's/context: frame.context_after()/context: cursor.context.max(1)/'
+mutant "writing in steps of 160 bits" write.rs 's/position: frame.end()/position: frame.start + 160/'
+mutant "a frame may not end where the buffer does" judge.rs 's/frame.end() > bits/frame.end() >= bits/'
+mutant "a huge tail is 5" causes.rs 's/(Cause::HugeTailPastBuffer, 4)/(Cause::HugeTailPastBuffer, 5)/'
+# Writing: the bits.
+mutant "tail of zeros" write.rs 's/fill(true)/fill(false)/'
+mutant "bit behind the tail cleared" write.rs 's/^ *bits\[tail..frame.end()\].fill(true);/& if let Some(bit) = bits.get_mut(frame.end()) { *bit = false; }/'
+mutant "C5 and XC6 even" fields.rs 's/ones % 2 == 0/ones % 2 == 1/'
+mutant "XC6 of zero" fields.rs 's/let xc6 = .*/let xc6 = false;/'
+mutant "C6..C9 in the other order" fields.rs 's/&control\[4..\]\]/\&[control[7], control[6], control[5], control[4]]]/'
+mutant "CRC of kind 1 lost" fields.rs 's/1 => unpack(&\[self.extended\])\[5..\].to_vec()/1 => vec![false; 3]/'
+mutant "writing: numbers low byte first" fields.rs '/^fn four/,/^}/s/\.iter()/.iter().rev()/'
+mutant "D bits one place on" fields.rs 's/put(&mut body, &kind.d, &self.d)/let mut d = self.d.clone(); d.rotate_right(1); put(\&mut body, \&kind.d, \&d)/'
 rm -rf "$copy"
 echo "mutants: $noticed noticed, $missed missed"
 [ "$missed" -eq 0 ]

@@ -20,18 +20,21 @@ pub struct Comparison {
     pub paging: Counts,
     pub writing: Counts,
     pub calls: u64,
+    /// Whether the model is held against itself too.
+    pub own_checks: bool,
 }
 
 /// In how many cases there is one sweep. The default run makes each sweep once at least.
 const SWEEP_EACH: u64 = 16;
 
 impl Comparison {
-    pub fn new(client: Client) -> Comparison {
+    pub fn new(client: Client, own_checks: bool) -> Comparison {
         Comparison {
             client,
             paging: Counts::default(),
             writing: Counts::default(),
             calls: 0,
+            own_checks,
         }
     }
 

@@ -64,6 +64,8 @@ fn unsound(fields: &Fields, direction: usize) -> Vec<Cause> {
         3 => 0x07,
         _ => 0xFF,
     };
+    let stray_control = fields.control & zeros_of_control != 0;
+    let stray_extended = fields.extended & zeros_of_extended != 0;
     let types: &[u8] = match number {
         1 => &[0b000],
         2 => &[0b001],
@@ -78,14 +80,8 @@ fn unsound(fields: &Fields, direction: usize) -> Vec<Cause> {
     let speech_down = matches!(xc, 0 | 2);
     let least = kind(number).least_tail[direction];
     held(&[
-        (
-            Cause::StrayControlBit,
-            fields.control & zeros_of_control != 0,
-        ),
-        (
-            Cause::StrayExtendedBit,
-            fields.extended & zeros_of_extended != 0,
-        ),
+        (Cause::StrayControlBit, stray_control),
+        (Cause::StrayExtendedBit, stray_extended),
         (Cause::StrayPaddingBit, fields.padding.contains(&true)),
         (Cause::TypeOfAnotherKind, !types.contains(&c1_to_c3)),
         (Cause::C4ZeroInUplink, number <= 4 && up && !c4),

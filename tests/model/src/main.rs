@@ -1,6 +1,7 @@
-//! `model compare --calls N --seed S [--only CASE] --client COMMAND..`: compares the library with
-//! the model on N calls or a few more. Exit status: 0 no difference, 1 a difference or something
-//! never hit, 2 bad usage, 3 the model breaks its own rules.
+//! `model compare --calls N --seed S [--only CASE] [--no-own-checks] --client COMMAND..`: compares
+//! the library with the model on N calls or a few more; without own checks, the model is not held
+//! against itself, so that only a difference stops a run. Exit status: 0 no difference, 1 a
+//! difference or something never hit, 2 bad usage, 3 the model breaks its own rules.
 
 mod client;
 mod compare;
@@ -19,6 +20,7 @@ struct Options {
     calls: u64,
     seed: u64,
     only: Option<u64>,
+    own_checks: bool,
     client: Vec<String>,
 }
 
@@ -28,6 +30,7 @@ fn options() -> Option<Options> {
         calls: 100_000,
         seed: 1,
         only: None,
+        own_checks: true,
         client: Vec::new(),
     };
     if words.next()? != "compare" {
@@ -38,6 +41,7 @@ fn options() -> Option<Options> {
             "--calls" => options.calls = words.next()?.parse().ok()?,
             "--seed" => options.seed = words.next()?.parse().ok()?,
             "--only" => options.only = Some(words.next()?.parse().ok()?),
+            "--no-own-checks" => options.own_checks = false,
             "--client" => options.client = words.by_ref().collect(),
             _ => return None,
         }
@@ -47,7 +51,9 @@ fn options() -> Option<Options> {
 
 fn main() -> ExitCode {
     let Some(options) = options() else {
-        eprintln!("model compare --calls N --seed S [--only CASE] --client COMMAND..");
+        eprintln!(
+            "model compare --calls N --seed S [--only CASE] [--no-own-checks] --client COMMAND.."
+        );
         return ExitCode::from(2);
     };
     let client = match Client::start(&options.client) {
@@ -62,7 +68,7 @@ fn main() -> ExitCode {
 
 fn compare(options: &Options, client: Client) -> ExitCode {
     let begin = Instant::now();
-    let mut comparison = Comparison::new(client);
+    let mut comparison = Comparison::new(client, options.own_checks);
     let mut case = options.only.unwrap_or(0);
     while comparison.calls < options.calls {
         if let Err(stop) = comparison.case(options.seed, case) {

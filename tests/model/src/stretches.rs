@@ -154,7 +154,7 @@ impl Stretch {
             10 => rng.below(enough + 1),
             11..=13 => enough + rng.below(4),
             14 => enough + rng.below(100),
-            _ if rng.once_in(30) => LONGEST + rng.below(2),
+            _ if rng.once_in(8) => LONGEST + rng.below(2),
             _ => self.from.position.div_ceil(8),
         };
         let any = rng.draw() as u8;
