@@ -109,7 +109,6 @@ impl Comparison {
     ) -> Result<Reply, Stop> {
         self.calls += 1;
         let reply = self.client.page(request, rng.draw() & 3, rng.draw() & 255);
-        coverage_page::count(&mut self.paging, request, expected);
         let pair = Pair {
             answer: &expected.answer,
             buffer: &expected.buffer,
@@ -118,6 +117,7 @@ impl Comparison {
         if !pair.same() {
             return Err(pair.difference(lines(request, expected)));
         }
+        coverage_page::count(&mut self.paging, request, expected);
         reply.map_err(Stop::Difference)
     }
 }

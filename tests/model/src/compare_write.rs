@@ -84,7 +84,6 @@ impl Comparison {
         let expected = write(request);
         self.calls += 1;
         let reply = self.client.write(request, rng.draw() & 3, rng.draw() & 255);
-        coverage_write::count(&mut self.writing, request, &expected);
         let pair = Pair {
             answer: &expected.answer,
             buffer: &expected.buffer,
@@ -94,6 +93,7 @@ impl Comparison {
             return Err(pair.difference(lines(request, &expected)));
         }
         let reply = reply.map_err(Stop::Difference)?;
+        coverage_write::count(&mut self.writing, request, &expected);
         if expected.answer.number == 0 {
             self.read_back(rng, request, &reply)?;
         }

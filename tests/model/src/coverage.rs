@@ -47,11 +47,17 @@ impl Line<'_> {
         self.parts.push(format!("{title}: {}", counts.join(" ")));
     }
 
-    /// How many of some names were hit.
+    /// How many of some names were hit. Where many were not, they are not named one by one.
     pub fn share(&mut self, title: &str, names: &[String]) {
+        let known = self.never.len();
         let hit = names.iter().filter(|name| self.count(name) > 0).count();
-        self.parts
-            .push(format!("{title}: {hit} of {}", names.len()));
+        let part = format!("{title}: {hit} of {}", names.len());
+        if self.never.len() > known + 3 {
+            self.never.truncate(known);
+            self.never
+                .push(format!("{title} ({hit} of {})", names.len()));
+        }
+        self.parts.push(part);
     }
 
     fn count(&mut self, name: &str) -> u64 {

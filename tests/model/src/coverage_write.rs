@@ -58,13 +58,16 @@ fn refused(counts: &mut Counts, request: &Request, written: &Written) {
     let causes = written.causes.iter();
     let (first, later): (Vec<Cause>, Vec<Cause>) =
         causes.partition(|cause| cause.number() == number);
+    let index = written.answer.index;
     if let [cause] = first[..] {
         counts.add(&format!("{cause:?}"));
+        if index > 0 {
+            counts.add(&format!("{cause:?} later"));
+        }
     }
     for later in later {
         counts.add(&format!("{number} before {}", later.number()));
     }
-    let index = written.answer.index;
     counts.add(&format!("{number} at {}", index.min(2)));
     if number == 4 {
         let frame = Fields::of(split(&request.records, index).1).frame();
@@ -91,6 +94,7 @@ pub fn line(counts: &Counts) -> (String, Vec<String>) {
             .collect();
         line.each(&pairs);
     }
+    line.share("causes behind a sound record", &later_causes());
     for number in [4, 5, 6] {
         let title = format!("{number} at 0, 1, more");
         line.list(&title, &range(&format!("{number} at"), 0, 2));
@@ -117,6 +121,13 @@ pub fn line(counts: &Counts) -> (String, Vec<String>) {
     line.share("verdicts of kind 6", &verdicts_of_6());
     line.share("sweeps", &range("sweep", 0, SWEEPS - 1));
     line.end("writing")
+}
+
+/// The causes that a record behind a sound one can have: its context is not 0.
+fn later_causes() -> Vec<String> {
+    let all = CAUSES.iter().filter(|(_, number)| *number > 3);
+    let names = all.map(|(cause, _)| format!("{cause:?} later"));
+    names.filter(|name| !name.contains("InContext0")).collect()
 }
 
 fn kinds_by_context() -> Vec<String> {

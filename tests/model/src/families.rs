@@ -48,12 +48,12 @@ const DAMAGE: [usize; 7] = [6_554, 1_966, 655, 197, 66, 20, 7];
 
 pub fn make(rng: &mut Rng) -> Made {
     let family = match rng.below(400) {
-        0..=2 => Family::Full,
-        3..=5 => Family::Empty,
-        6..=9 => Family::Zeros,
-        10..=15 => Family::Ones,
-        16..=29 => Family::Examples,
-        30..=49 => Family::Noise,
+        0..=4 => Family::Full,
+        5..=8 => Family::Empty,
+        9..=12 => Family::Zeros,
+        13..=18 => Family::Ones,
+        19..=32 => Family::Examples,
+        33..=49 => Family::Noise,
         50..=99 => Family::Overlaid,
         100..=169 => Family::Modes,
         170..=249 => Family::NearMisses,

@@ -43,13 +43,16 @@ pub fn check(request: &Request, written: &Written) -> Result<(), String> {
     }
 }
 
-/// The first so many records, and the rest.
+/// The first so many records, whole and of known kinds, and the rest.
 pub fn split(records: &[u8], index: u64) -> (&[u8], &[u8]) {
     let mut at = 0;
     for _ in 0..index {
-        at += length(records[at] as usize);
+        at += match records.get(at) {
+            Some(number @ 1..=8) => length(*number as usize),
+            _ => break,
+        };
     }
-    records.split_at(at)
+    records.split_at(at.min(records.len()))
 }
 
 /// The bits written must read as the records, and no other bit may have changed.
