@@ -17,13 +17,16 @@ impl Comparison {
     /// Runs as they were read, records made by hand, and both of them spoilt.
     pub fn write_case(&mut self, rng: &mut Rng, lent: &Lent) -> Result<(), Stop> {
         let mut runs = Vec::new();
-        if !lent.too_long() {
-            for _ in 0..if lent.capture.n() < 10_000 { 2 } else { 1 } {
-                let cursor = lent.cursor(rng);
-                let run = Stretch::read(rng, &lent.capture, cursor);
-                self.own_bits(rng, lent, &run)?;
-                runs.push(run);
-            }
+        let reads = match lent.capture.n() {
+            _ if lent.too_long() => 0,
+            0..10_000 => 2,
+            _ => 1,
+        };
+        for _ in 0..reads {
+            let cursor = lent.cursor(rng);
+            let run = Stretch::read(rng, &lent.capture, cursor);
+            self.own_bits(rng, lent, &run)?;
+            runs.push(run);
         }
         for _ in 0..3 {
             runs.push(Stretch::made(rng));

@@ -37,6 +37,7 @@ fn record(rng: &mut Rng, record: &mut [u8], direction: usize) {
     let least = kind.least_tail[direction];
     let any = rng.draw() as u8;
     let bit = 1 << rng.below(8);
+    let tail = rng.of(&[0, 1, 2, 500, 1 << 20, 1 << 31, u32::MAX as usize]);
     let start = Fields::of(record).start;
     match rng.below(13) {
         0 => record[rng.below(record.len())] = any,
@@ -49,11 +50,7 @@ fn record(rng: &mut Rng, record: &mut [u8], direction: usize) {
         6 => record[11] = rng.of(&[0, 128, 1, 16, 32, 48, any]),
         7 => record[11] ^= bit,
         8 => set_four(record, 5, least.saturating_sub(1)),
-        9 => set_four(
-            record,
-            5,
-            rng.of(&[0, 1, 2, 500, 1 << 20, 1 << 31, u32::MAX as usize]),
-        ),
+        9 => set_four(record, 5, tail),
         10 => record[9] = rng.of(&[any, record[9] ^ bit, record[9] ^ 0x18]),
         11 => record[10] = rng.of(&[any, record[10] ^ bit, 0, 248]),
         _ => {

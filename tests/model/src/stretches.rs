@@ -95,7 +95,7 @@ impl Stretch {
         let context = 1 + rng.below(5) as u64;
         let mut stretch = Stretch::new(rng.below(2), Cursor { position, context });
         let mut left = MOST + rng.of(&[0, 0, 0, 1, 2, 26]) - rng.of(&[0, 0, 0, 1]);
-        // From 650 on each number is a sum of the lengths of kinds 1 and 3, 26 and 27.
+        // From 650 on each number is a sum of 26 and 27, the lengths of kinds 1 and 3.
         while left >= 750 {
             let number = 1 + rng.below(8);
             left -= stretch.add(rng, number, false);
@@ -110,8 +110,8 @@ impl Stretch {
         stretch
     }
 
-    /// Adds a frame of a kind and gives the bytes of its record. It is none where no such frame is
-    /// due there, unless the call is sloppy.
+    /// Adds a frame of a kind and gives the length of its record. One that is not due is added
+    /// only by a sloppy call; else the length is 0.
     fn add(&mut self, rng: &mut Rng, number: usize, sloppy: bool) -> usize {
         let context = self.to.context;
         // Often right by another context than the one that it stands in.
