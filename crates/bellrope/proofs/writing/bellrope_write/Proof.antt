@@ -42,7 +42,7 @@ refuse-requires-2 : tie.Need-refuse-requires-2
 refuse-requires-2 c κs = search needs
 
 returns-2 : tie.Need-returns-2
-returns-2 c = refused-record (c .before .before .before .before .before .before .before .before .before .args .records .now) (c .before .before .before .before .before .before .before .before .before .args .direction) (c .before .before .before .before .before .before .before .before .before .args .position) (c .before .before .before .before .before .before .before .before .before .args .context) (c .before .before .before .before .before .before .before .before .before .args .buffer .now) (c .before .before .before .before .before .before .refusal .result) (c .before .before .before .before .before .before .refusal .ensures) (omega arith) (c .before .before .before .before .direction-of .result) (c .before .before .before .before .direction-of .ensures) (c .before .before .before .judge-all .result .number) (c .before .before .before .judge-all .result .items) (cursorOf (c .before .before .before .judge-all .result .cursor)) (c .before .before .before .judge-all .ensures) (c .refuse2 .result) (c .before .before .before .before .before .before .before .before .before .args .buffer .now) (c .before .if2 .taken) (c .refuse2 .ensures) refl
+returns-2 c = refused-record (c .before .before .before .before .before .before .before .before .before .args .records .now) (c .before .before .before .before .before .before .before .before .before .args .direction) (c .before .before .before .before .before .before .before .before .before .args .position) (c .before .before .before .before .before .before .before .before .before .args .context) (c .before .before .before .before .before .before .before .before .before .args .buffer .now) (c .before .before .before .before .before .before .refusal .result) (c .before .before .before .before .before .before .refusal .ensures) (omega arith) (c .before .before .before .before .direction-of .result) (c .before .before .before .before .direction-of .ensures) (c .before .before .before .judge-all .result .number) (c .before .before .before .judge-all .result .items) (cursorOf (c .before .before .before .judge-all .result .cursor)) (c .before .before .before .judge-all .ensures) (c .refuse2 .result) (c .before .before .before .before .before .before .before .before .before .args .buffer .now) (λ e. omega arith) (c .refuse2 .ensures) refl
 
 put-all-requires : tie.Need-put-all-requires
 put-all-requires c κs =
