@@ -11,13 +11,13 @@ ghost use Rattle.channel.specs.Control.{fromTop};
 ghost use Rattle.channel.specs.Crc.{right};
 ghost use Rattle.word.specs.Below.{Below};
 
-// The bit at entry j of the places.
-fn bit_at(o: [u8; 20], places: &[u8], j: usize) -> bool
-    requires { ⌜ Below 160 (now places) × (j < length (now places)) ⌝ }
-    ensures { λ r. ⌜ r ≡ bitAt o (getD (now (places .entry)) j 0) ⌝ }
+// The bit at entry j of the places. The octets are lent here: by value they would be copied for each bit.
+fn bit_at(o: &[u8], places: &[u8], j: usize) -> bool
+    requires { ⌜ (length (now o) ≡ 20) × Below 160 (now places) × (j < length (now places)) ⌝ }
+    ensures { λ r. ⌜ r ≡ bitAt (now (o .entry)) (getD (now (places .entry)) j 0) ⌝ }
 {
     let p = places[j] as usize;
-    bits::bit(&o, p)
+    bits::bit(o, p)
 }
 
 // Whether the bits at all the places have the value; the first that differs ends it.
@@ -26,7 +26,7 @@ pub fn all_are(o: [u8; 20], places: &[u8], value: bool) -> bool
     ensures { λ r. ⌜ r ≡ all (λ p. Bool·beq (bitAt o p) value) (now (places .entry)) ⌝ }
 {
     for j in 0..places.len() {
-        if bit_at(o, places, j) != value {
+        if bit_at(&o, places, j) != value {
             return false;
         }
     }
@@ -40,7 +40,7 @@ pub fn packed(o: [u8; 20], places: &[u8]) -> u32
 {
     let mut field: u32 = 0;
     for j in 0..places.len() {
-        field = with_bit(field, bit_at(o, places, j));
+        field = with_bit(field, bit_at(&o, places, j));
     }
     field
 }
@@ -86,7 +86,7 @@ pub fn crc_right(o: [u8; 20], places: &[u8]) -> bool
     let mut r1 = false;
     let mut r0 = false;
     for j in 0..places.len() {
-        let b = bit_at(o, places, j);
+        let b = bit_at(&o, places, j);
         let carry = r2;
         r2 = r1;
         r1 = r0 != carry;

@@ -3,26 +3,29 @@
 use mathlib.Core.Path.{_≡_, refl}
 use Prim.Native.Nat.{_-_, _≤_}
 use native.Mathlib.Omega.{arith}
-use borrow.Author.Needs.{needs}
 use lib.ListN.{length, drop}
 use Rattle.bits.specs.Bit.{bitAt}
 use Rattle.channel.specs.Coding.{bitsAt}
 use Rattle.channel.specs.Crc.{remFrom, rem, right}
 use Rattle.word.proofs.WordLaws.{held, rem-goes, rem-right, left-111, left-10, left-0}
+use borrow.Author.Needs.{needs}
 use Rattle.word.proofs.crc_right.Statement.{statement}
 use Rattle.word.proofs.crc_right.Tie as tie
 
 abbrev Inv-loop : tie.InvT-loop
-Inv-loop o places r2₀ r1₀ r0₀ j₀ j-end r2 r1 r0 j = (j-end ≡ length places) × (j ≤ length places) × (rem (bitsAt (bitAt o) places) ≡ remFrom (held r2 r1 r0) (bitsAt (bitAt o) (drop j places)))
+Inv-loop places o r2₀ r1₀ r0₀ j₀ j-end r2 r1 r0 j = (j-end ≡ length places) × (j ≤ length places) × (rem (bitsAt (bitAt o) places) ≡ remFrom (held r2 r1 r0) (bitsAt (bitAt o) (drop j places)))
 
 abbrev μ-loop : tie.MeasureT-loop
-μ-loop o places r2₀ r1₀ r0₀ j₀ j-end r2 r1 r0 j = length places - j
+μ-loop places o r2₀ r1₀ r0₀ j₀ j-end r2 r1 r0 j = length places - j
 
 loop-holds : tie.Need-loop-holds Inv-loop μ-loop
 loop-holds c = (refl, omega arith, refl)
 
+slice-aggregate-bit-at : tie.Need-slice-aggregate-bit-at Inv-loop μ-loop
+slice-aggregate-bit-at c = search needs
+
 bit-at-requires : tie.Need-bit-at-requires Inv-loop μ-loop
-bit-at-requires c κs = (c .before .before .before .pre, omega arith)
+bit-at-requires c κs = (search needs, c .before .before .before .before .pre, omega arith)
 
 add-j : tie.Need-add-j Inv-loop μ-loop
 add-j c = search needs
@@ -31,28 +34,16 @@ loop-less : tie.Need-loop-less Inv-loop μ-loop
 loop-less c = search needs
 
 loop-again : tie.Need-loop-again Inv-loop μ-loop
-loop-again c =
-    let a = c .before .before .before .before .args in
-    let i = c .before .before .loop in
-    (refl, omega arith, rem-goes (bitAt (a .o)) (a .places .now) (i .j) (i .r2) (i .r1) (i .r0) (c .bit-at .result) (omega arith) (i .inv .2) (c .bit-at .ensures))
+loop-again c = (refl, omega arith, rem-goes (bitAt (c .before .before .before .before .before .args .t1)) (c .before .before .before .before .before .args .places .now) (c .before .before .before .loop .j) (c .before .before .before .loop .r2) (c .before .before .before .loop .r1) (c .before .before .before .loop .r0) (c .bit-at .result) (omega arith) (c .before .before .before .loop .inv .2) (c .bit-at .ensures))
 
 returns : tie.Need-returns Inv-loop μ-loop
-returns c =
-    let a = c .before .before .before .before .before .args in
-    let i = c .before .before .before .loop in
-    left-111 (i .r2) (i .r1) (i .r0) (right (bitAt (a .o)) (a .places .now)) (rem-right (bitAt (a .o)) (a .places .now) (i .j) (i .r2) (i .r1) (i .r0) (omega arith) (i .inv .2)) (c .before .if1 .taken) (c .if2 .taken)
+returns c = left-111 (c .before .before .before .loop .r2) (c .before .before .before .loop .r1) (c .before .before .before .loop .r0) (right (bitAt (c .before .before .before .before .before .args .t1)) (c .before .before .before .before .before .args .places .now)) (rem-right (bitAt (c .before .before .before .before .before .args .t1)) (c .before .before .before .before .before .args .places .now) (c .before .before .before .loop .j) (c .before .before .before .loop .r2) (c .before .before .before .loop .r1) (c .before .before .before .loop .r0) (omega arith) (c .before .before .before .loop .inv .2)) (c .before .if1 .taken) (c .if2 .taken)
 
 returns-2 : tie.Need-returns-2 Inv-loop μ-loop
-returns-2 c =
-    let a = c .before .before .before .before .before .args in
-    let i = c .before .before .before .loop in
-    left-10 (i .r2) (i .r1) (i .r0) (right (bitAt (a .o)) (a .places .now)) (rem-right (bitAt (a .o)) (a .places .now) (i .j) (i .r2) (i .r1) (i .r0) (omega arith) (i .inv .2)) (c .before .if1 .taken) (c .if2 .left)
+returns-2 c = left-10 (c .before .before .before .loop .r2) (c .before .before .before .loop .r1) (c .before .before .before .loop .r0) (right (bitAt (c .before .before .before .before .before .args .t1)) (c .before .before .before .before .before .args .places .now)) (rem-right (bitAt (c .before .before .before .before .before .args .t1)) (c .before .before .before .before .before .args .places .now) (c .before .before .before .loop .j) (c .before .before .before .loop .r2) (c .before .before .before .loop .r1) (c .before .before .before .loop .r0) (omega arith) (c .before .before .before .loop .inv .2)) (c .before .if1 .taken) (c .if2 .left)
 
 returns-3 : tie.Need-returns-3 Inv-loop μ-loop
-returns-3 c =
-    let a = c .before .before .before .before .args in
-    let i = c .before .before .loop in
-    left-0 (i .r2) (i .r1) (i .r0) (right (bitAt (a .o)) (a .places .now)) (rem-right (bitAt (a .o)) (a .places .now) (i .j) (i .r2) (i .r1) (i .r0) (omega arith) (i .inv .2)) (c .if1 .left)
+returns-3 c = left-0 (c .before .before .loop .r2) (c .before .before .loop .r1) (c .before .before .loop .r0) (right (bitAt (c .before .before .before .before .args .t1)) (c .before .before .before .before .args .places .now)) (rem-right (bitAt (c .before .before .before .before .args .t1)) (c .before .before .before .before .args .places .now) (c .before .before .loop .j) (c .before .before .loop .r2) (c .before .before .loop .r1) (c .before .before .loop .r0) (omega arith) (c .before .before .loop .inv .2)) (c .if1 .left)
 
 pub crc-right-spec : {M : Type 1} → statement M
 crc-right-spec =
@@ -61,6 +52,7 @@ crc-right-spec =
     Inv-loop
     μ-loop
     loop-holds
+    slice-aggregate-bit-at
     bit-at-requires
     add-j
     loop-less

@@ -3,30 +3,33 @@
 use mathlib.Core.Path.{_≡_, refl, sym, _∙_}
 use Prim.Native.Nat.{_-_, _^_, _≤_, _<_}
 use native.Mathlib.Omega.{arith}
-use borrow.Author.Needs.{needs}
 use lib.Dec.{lit<}
 use lib.ListN.{length, drop}
 use lib.Pow.{pow-mono}
 use Rattle.bits.specs.Bit.{bitAt, numberFrom, number}
 use Rattle.channel.specs.Coding.{bitsAt}
 use Rattle.word.proofs.WordLaws.{number-goes, number-end, field-grows}
+use borrow.Author.Needs.{needs}
 use Rattle.word.proofs.packed.Statement.{statement}
 use Rattle.word.proofs.packed.Tie as tie
 
 abbrev Inv-loop : tie.InvT-loop
-Inv-loop o places field₀ j₀ j-end field j = (j-end ≡ length places) × (j ≤ length places) × (field < 2 ^ j) × (number (bitsAt (bitAt o) places) ≡ numberFrom field (bitsAt (bitAt o) (drop j places)))
+Inv-loop places o field₀ j₀ j-end field j = (j-end ≡ length places) × (j ≤ length places) × (field < 2 ^ j) × (number (bitsAt (bitAt o) places) ≡ numberFrom field (bitsAt (bitAt o) (drop j places)))
 
 abbrev μ-loop : tie.MeasureT-loop
-μ-loop o places field₀ j₀ j-end field j = length places - j
+μ-loop places o field₀ j₀ j-end field j = length places - j
 
 loop-holds : tie.Need-loop-holds Inv-loop μ-loop
 loop-holds c = (refl, omega arith, lit< tt, refl)
 
+slice-aggregate-bit-at : tie.Need-slice-aggregate-bit-at Inv-loop μ-loop
+slice-aggregate-bit-at c = search needs
+
 bit-at-requires : tie.Need-bit-at-requires Inv-loop μ-loop
-bit-at-requires c κs = (c .before .before .before .pre .0, omega arith)
+bit-at-requires c κs = (search needs, c .before .before .before .before .pre .0, omega arith)
 
 with-bit-requires : tie.Need-with-bit-requires Inv-loop μ-loop
-with-bit-requires c κs = omega (arith, pow-mono {i = c .before .before .loop .j} {j = 8} (omega arith))
+with-bit-requires c κs = omega (arith, pow-mono {i = c .before .before .before .loop .j} {j = 8} (omega arith))
 
 add-j : tie.Need-add-j Inv-loop μ-loop
 add-j c = search needs
@@ -35,20 +38,15 @@ loop-less : tie.Need-loop-less Inv-loop μ-loop
 loop-less c = search needs
 
 loop-again : tie.Need-loop-again Inv-loop μ-loop
-loop-again c =
-    let a = c .before .before .before .before .before .args in
-    let i = c .before .before .before .loop in (
-      refl,
-      omega arith,
-      field-grows (i .field) (i .j) (c .before .bit-at .result) (c .with-bit .result) (i .inv .2) (c .with-bit .ensures),
-      number-goes (bitAt (a .o)) (a .places .now) (i .j) (i .field) (c .before .bit-at .result) (c .with-bit .result) (omega arith) (i .inv .3) (c .before .bit-at .ensures) (c .with-bit .ensures),
-    )
+loop-again c = (
+  refl,
+  omega arith,
+  field-grows (c .before .before .before .before .loop .field) (c .before .before .before .before .loop .j) (c .before .bit-at .result) (c .with-bit .result) (c .before .before .before .before .loop .inv .2) (c .with-bit .ensures),
+  number-goes (bitAt (c .before .before .before .before .before .before .args .t1)) (c .before .before .before .before .before .before .args .places .now) (c .before .before .before .before .loop .j) (c .before .before .before .before .loop .field) (c .before .bit-at .result) (c .with-bit .result) (omega arith) (c .before .before .before .before .loop .inv .3) (c .before .bit-at .ensures) (c .with-bit .ensures),
+)
 
 returns : tie.Need-returns Inv-loop μ-loop
-returns c =
-    let a = c .before .before .before .args in
-    let i = c .before .loop in
-    sym (i .inv .3 ∙ number-end (a .places .now) (i .j) (bitAt (a .o)) (i .field) (omega arith))
+returns c = sym (c .before .loop .inv .3 ∙ number-end (c .before .before .before .args .places .now) (c .before .loop .j) (bitAt (c .before .before .before .args .t1)) (c .before .loop .field) (omega arith))
 
 pub packed-spec : {M : Type 1} → statement M
 packed-spec =
@@ -57,6 +55,7 @@ packed-spec =
     Inv-loop
     μ-loop
     loop-holds
+    slice-aggregate-bit-at
     bit-at-requires
     with-bit-requires
     add-j
