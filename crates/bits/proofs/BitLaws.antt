@@ -54,7 +54,7 @@ digit g (suc m) b a (suc j) h =
     rw e (digit g m (suc b) (2 * a + toN (g b)) j (le-of-suc-le-suc h) ∙ ap (λ (k : ℕ). toN (g k)) i)
 
 -- a number is what is above its m low bits, with these put behind it
-rebuilt : (g : ℕ → Bool) (m b x : ℕ) → ((j : ℕ) → j < m → x / 2 ^ (m - suc j) % 2 ≡ toN (g (b + j))) → numberFrom (x / 2 ^ m) (map g (count m b)) ≡ x
+pub rebuilt : (g : ℕ → Bool) (m b x : ℕ) → ((j : ℕ) → j < m → x / 2 ^ (m - suc j) % 2 ≡ toN (g (b + j))) → numberFrom (x / 2 ^ m) (map g (count m b)) ≡ x
 rebuilt g zero b x h = omega arith
 rebuilt g (suc m) b x h =
     let e : suc m - 1 ≡ m = omega arith in
@@ -119,7 +119,7 @@ twenty-lt g k =
     rw (List·getD-eq-default {A = ℕ} (map (octetOf g) (count 20 0)) 0 past-end) (lit< tt))
 
 -- bit j of byte k, as bitAt has it
-byte-bit : (xs : List ℕ) (k j : ℕ) → j < 8 → getD xs k 0 / 2 ^ (7 - j) % 2 ≡ toN (bitAt xs (8 * k + j))
+pub byte-bit : (xs : List ℕ) (k j : ℕ) → j < 8 → getD xs k 0 / 2 ^ (7 - j) % 2 ≡ toN (bitAt xs (8 * k + j))
 byte-bit xs k j h =
     let i : (8 * k + j) / 8 ≡ k = omega arith in
     let r : (8 * k + j) % 8 ≡ j = omega arith in
@@ -146,7 +146,7 @@ pub unseen : (f h : ℕ → Bool) (n p : ℕ) → ((i : ℕ) → i < n → f i �
 unseen f h n p same = fun-ext (λ i. unseen-at f h n (p + i) same)
 
 -- bit j of n is seen in n's remainder by a higher power
-low-bit : (n d j : ℕ) → n % 2 ^ (d + (1 + j)) / 2 ^ j % 2 ≡ n / 2 ^ j % 2
+pub low-bit : (n d j : ℕ) → n % 2 ^ (d + (1 + j)) / 2 ^ j % 2 ≡ n / 2 ^ j % 2
 low-bit n d j =
     sym (field (n % 2 ^ (d + (1 + j))) 1 j) ∙ ap (λ (m : ℕ). m / 2 ^ j) (mod-mod-pow n d (1 + j)) ∙ field n 1 j
 

@@ -18,7 +18,7 @@ use Rattle.bits.specs.Bit.{bitAt, toN, numberFrom, number, count}
 use Rattle.bits.proofs.CountLaws.{getD-map-count}
 use Rattle.channel.specs.declared.Kind.{Kind}
 use Rattle.channel.specs.declared.Kind.the-variants.{Speech, Data, Om, Configuration, NoSpeech, Lower, Amr670, Amr740}
-use Rattle.channel.specs.Kinds.{dCount, bodyOf}
+use Rattle.channel.specs.Kinds.{dCount}
 use Rattle.channel.specs.Places.{elem, dPlaces}
 use Rattle.channel.specs.Coding.{Word, bitsAt}
 use Rattle.channel.specs.Control.{fromTop}

@@ -1,8 +1,10 @@
 -- The table of D bits and the D bits as bytes (document 01, "Frames": "One constant table holds the place of each of the 1,022 D bits of the
 -- eight kinds"; "Records and calls": "D bits from the top bit down, zero padded"). Assumes nothing.
+use mathlib.Core.Bool.{Bool, _&&_}
 use mathlib.Core.List.{List, map}
-use Prim.Native.Nat.{ℕ, _*_}
-use lib.ListN.{drop}
+use Prim.Native.Nat.{ℕ, suc, _+_, _*_, _-_, _%_, _<_}
+use lib.Dec.{eqb, leb}
+use lib.ListN.{length, getD, drop}
 use Rattle.reading.specs.Reading.{joined}
 use Rattle.bits.specs.Bit.{count}
 use Rattle.channel.specs.declared.Kind.{Kind}
@@ -30,3 +32,14 @@ dFrom Amr740 = 871
 -- the D bits of a word of a kind in 19 bytes, as many as the longest kind has: from the top bit down, zero padded
 unfoldable pub dBytes : Word → Kind → List ℕ
 dBytes g k = map (λ j. fromTop (drop (8 * j) (bitsAt g (dPlaces k)))) (count 19 0)
+
+-- each entry of a list is below the next
+abbrev pub Rising : List ℕ → Type 0
+Rising ps = (j : ℕ) → suc j < length ps → getD ps j 0 < getD ps (suc j) 0
+
+-- eight places are s neighbours and then 8 - s neighbours, these in one octet, by the first and the last of each: between them the places rise
+abbrev pub twoRuns : List ℕ → ℕ → Bool
+twoRuns ps s =
+    eqb (getD ps (s - 1) 0) (getD ps 0 0 + s - 1)
+    && eqb (getD ps 7 0) (getD ps s 0 + 7 - s)
+    && leb (getD ps s 0 % 8) s

@@ -1,9 +1,11 @@
 -- `dbits::d_byte` meets its contract: the places lent are the eight from 8 j on, or what is left of them.
 -- Assumes nothing.
 use mathlib.Core.Path.{_∙_}
-use borrow.Author.Needs.{needs}
+use Prim.Native.Nat.{_-_}
 use Rattle.bits.specs.Bit.{bitAt}
 use Rattle.dbits.proofs.DBitLaws.{eight-below, byte-of}
+use Rattle.dbits.proofs.RunLaws.{part-rises}
+use borrow.Author.Needs.{needs}
 use Rattle.dbits.proofs.d_byte.Statement.{statement}
 use Rattle.dbits.proofs.d_byte.Tie as tie
 
@@ -22,28 +24,22 @@ add-least c = search needs
 least-requires-2 : tie.Need-least-requires-2
 least-requires-2 c κs = search needs
 
-sub-top-byte : tie.Need-sub-top-byte
-sub-top-byte c = search needs
+sub-eight : tie.Need-sub-eight
+sub-eight c = search needs
 
-part-top-byte-start : tie.Need-part-top-byte-start
-part-top-byte-start c = search needs
+part-eight-start : tie.Need-part-eight-start
+part-eight-start c = search needs
 
-part-top-byte-end : tie.Need-part-top-byte-end
-part-top-byte-end c = search needs
+part-eight-end : tie.Need-part-eight-end
+part-eight-end c = search needs
 
-top-byte-requires : tie.Need-top-byte-requires
-top-byte-requires c κs =
-    let s = c .before .before .before .before in
-    let f = c .before .before .least in
-    let t = c .before .least2 in
-    eight-below (s .args .part .now) _ (f .result) (t .result) (f .ensures) (t .ensures) (s .pre .0)
+eight-requires : tie.Need-eight-requires
+eight-requires c κs =
+    let b = eight-below (c .before .before .before .before .args .part .now) _ (c .before .before .least .result) (c .before .least2 .result) (c .before .before .least .ensures) (c .before .least2 .ensures) (c .before .before .before .before .pre .0) in
+    (b .0, b .1, part-rises (c .before .before .before .before .args .part .now) (c .before .before .least .result) (c .before .least2 .result - c .before .before .least .result) (c .before .before .before .before .pre .2))
 
 returns : tie.Need-returns
-returns c =
-    let a = c .before .before .before .before .before .args in
-    let f = c .before .before .before .least in
-    let t = c .before .before .least2 in
-    c .top-byte .ensures ∙ byte-of (bitAt (a .o)) (a .part .now) (a .j) (f .result) (t .result) (f .ensures) (t .ensures)
+returns c = c .eight .ensures ∙ byte-of (bitAt (c .before .before .before .before .before .args .o)) (c .before .before .before .before .before .args .part .now) (c .before .before .before .before .before .args .j) (c .before .before .before .least .result) (c .before .before .least2 .result) (c .before .before .before .least .ensures) (c .before .before .least2 .ensures)
 
 pub d-byte-spec : {M : Type 1} → statement M
 d-byte-spec =
@@ -54,8 +50,8 @@ d-byte-spec =
     mul-least-2
     add-least
     least-requires-2
-    sub-top-byte
-    part-top-byte-start
-    part-top-byte-end
-    top-byte-requires
+    sub-eight
+    part-eight-start
+    part-eight-end
+    eight-requires
     returns)

@@ -11,6 +11,9 @@ use Rattle.channel.specs.Coding.{bitsAt}
 use Rattle.channel.specs.Control.{fromTop}
 use Rattle.dbits.specs.DBits.{dBytes}
 use Rattle.dbits.proofs.DBitLaws.{part-end, part-is, places-below, d-length, d-count-le}
+use Rattle.channel.specs.Places.{dPlaces}
+use Rattle.channel.proofs.DLaws.{d-rule}
+use Rattle.dbits.proofs.RunLaws.{rises-rising}
 use Rattle.dbits.proofs.d_bytes.Statement.{statement}
 use Rattle.dbits.proofs.d_bytes.Tie as tie
 
@@ -45,7 +48,7 @@ part-bytes-requires c κs =
     let n = c .before .before .d-count in
     let k = start .args .k in
     rw (part-is k (t .result) (f .result) (n .result) (t .ensures) (f .ensures) (n .ensures))
-    (places-below k, rw (d-length k) (d-count-le k))
+    (places-below k, rw (d-length k) (d-count-le k), rises-rising 0 (dPlaces k) (d-rule k .rise))
 
 returns : tie.Need-returns
 unfolding dBytes

@@ -1,15 +1,15 @@
 -- `dbits::part_bytes` meets its contract. The loop's invariant: the first j bytes are filled, the others are still zero.
 -- Assumes nothing.
 use mathlib.Core.Path.{_≡_}
-use mathlib.Core.List.{_++_, map}
+use mathlib.Core.List.{map, _++_}
 use Prim.Native.Nat.{_*_, _-_, _≤_}
 use native.Mathlib.Omega.{arith}
-use borrow.Author.Needs.{needs}
 use lib.ListN.{drop, replicate}
 use Rattle.bits.specs.Bit.{bitAt, count}
 use Rattle.bits.proofs.CountLaws.{fill-step}
 use Rattle.channel.specs.Coding.{bitsAt}
 use Rattle.channel.specs.Control.{fromTop}
+use borrow.Author.Needs.{needs}
 use Rattle.dbits.proofs.part_bytes.Statement.{statement}
 use Rattle.dbits.proofs.part_bytes.Tie as tie
 
@@ -23,9 +23,7 @@ loop-holds : tie.Need-loop-holds Inv-loop μ-loop
 loop-holds c = search needs
 
 d-byte-requires : tie.Need-d-byte-requires Inv-loop μ-loop
-d-byte-requires c κs =
-    let s = c .before .before .before in
-    (s .pre .0, s .pre .1, omega arith)
+d-byte-requires c κs = (c .before .before .before .pre .0, c .before .before .before .pre .1, c .before .before .before .pre .2, omega arith)
 
 array-write-out : tie.Need-array-write-out Inv-loop μ-loop
 array-write-out c = search needs
@@ -37,10 +35,7 @@ loop-less : tie.Need-loop-less Inv-loop μ-loop
 loop-less c = search needs
 
 loop-again : tie.Need-loop-again Inv-loop μ-loop
-loop-again c =
-    let i = c .before .before .loop in
-    let a = c .before .before .before .before .args in
-    (omega arith, fill-step (λ j. fromTop (drop (8 * j) (bitsAt (bitAt (a .o)) (a .part .now)))) (i .j) (replicate 19 0) (i .out) (c .d-byte .result) (i .inv .1) (c .d-byte .ensures) (omega arith))
+loop-again c = (omega arith, fill-step (λ j. fromTop (drop (8 * j) (bitsAt (bitAt (c .before .before .before .before .args .o)) (c .before .before .before .before .args .part .now)))) (c .before .before .loop .j) (replicate 19 0) (c .before .before .loop .out) (c .d-byte .result) (c .before .before .loop .inv .1) (c .d-byte .ensures) (omega arith))
 
 returns : tie.Need-returns Inv-loop μ-loop
 returns c = let e : c .before .loop .j ≡ 19 = omega arith in rw e at (c .before .loop .inv .1)
