@@ -184,7 +184,7 @@ shifted-seen s n q j hj hb l =
     rw (lt-ltb (q + j) n l) (e ∙ sym (one-toN (getD s ((q + j) / 8) 0 / 2 ^ (7 - (q + j) % 8) % 2) (omega arith)))
 
 -- the first octet is determined by its bits
-octet-first : (g : ℕ → Bool) (x : ℕ) → x < 256 → ((j : ℕ) → j < 8 → x / 2 ^ (7 - j) % 2 ≡ toN (g j)) → x ≡ octetOf g 0
+pub octet-first : (g : ℕ → Bool) (x : ℕ) → x < 256 → ((j : ℕ) → j < 8 → x / 2 ^ (7 - j) % 2 ≡ toN (g j)) → x ≡ octetOf g 0
 octet-first g x h bits =
     octet-one g 0 x h (λ j l. let e : j ≡ 8 * 0 + j = omega arith in bits j l ∙ ap (λ (i : ℕ). toN (g i)) e)
 

@@ -213,7 +213,7 @@ fromTop-bit bs j h =
     rw e at d ∙ ap toN (getD-take 8 all j false h ∙ zeros-unseen bs 8 j)
 
 -- bit i of the bytes is bit i of the D bits, or zero behind their end
-bytes-bit : (g : Word) (k : Kind) (i : ℕ) → i < 152 → bitAt (dBytes g k) i ≡ getD (bitsAt g (dPlaces k)) i false
+pub bytes-bit : (g : Word) (k : Kind) (i : ℕ) → i < 152 → bitAt (dBytes g k) i ≡ getD (bitsAt g (dPlaces k)) i false
 unfolding dBytes
 bytes-bit g k i h =
     let bs = bitsAt g (dPlaces k) in

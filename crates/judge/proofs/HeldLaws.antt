@@ -79,25 +79,25 @@ kind-by Amr740 = refl
 is-one : (j k : Kind) → Is j ≡ Is k → j ≡ k
 is-one j k e = cc
 
-is-not : (k : Kind) → Nothing ≡ Is k → ⊥
+pub is-not : (k : Kind) → Nothing ≡ Is k → ⊥
 is-not k e = let z : _≡_ {A = ℕ} 0 1 = cc in omega arith
 
 -- bytes that begin with the sound record of a frame
 module _ (d : Direction) (part : List ℕ) (f : Frame) (rest : List ℕ) (s : SoundAs d part f rest) where
   -- the first byte tells the kind
-  front-kind : kindBy (getD part 0 0) ≡ Is (f .kind)
+  pub front-kind : kindBy (getD part 0 0) ≡ Is (f .kind)
   unfolding recordOf
   front-kind = ap (λ (b : List ℕ). kindBy (getD b 0 0)) (s .front) ∙ kind-by (f .kind)
 
   -- the record is not cut short
-  front-long : 12 + dLength (f .kind) ≤ length part
+  pub front-long : 12 + dLength (f .kind) ≤ length part
   front-long = omega (arith, ap length (s .front), length-append (recordOf (frame f)) rest, record-length (frame f))
 
   front-start : numberAt part 1 ≡ f .start
   unfolding recordOf
   front-start = ap (λ (b : List ℕ). numberAt b 1) (s .front) ∙ four-bytes (f .start) (s .fit .start-fits)
 
-  front-tail : numberAt part 5 ≡ f .tail
+  pub front-tail : numberAt part 5 ≡ f .tail
   unfolding recordOf
   front-tail = ap (λ (b : List ℕ). numberAt b 5) (s .front) ∙ four-bytes (f .tail) (s .fit .tail-fits)
 
@@ -105,15 +105,15 @@ module _ (d : Direction) (part : List ℕ) (f : Frame) (rest : List ℕ) (s : So
   unfolding recordOf
   front-verdict = ap (λ (b : List ℕ). getD b 11 0) (s .front)
 
-  front-control : control (f .body) (f .kind) ≡ getD part 9 0
+  pub front-control : control (f .body) (f .kind) ≡ getD part 9 0
   unfolding recordOf
   front-control = ap (λ (b : List ℕ). getD b 9 0) (sym (s .front))
 
-  front-extended : extended (f .body) (f .kind) ≡ getD part 10 0
+  pub front-extended : extended (f .body) (f .kind) ≡ getD part 10 0
   unfolding recordOf
   front-extended = ap (λ (b : List ℕ). getD b 10 0) (sym (s .front))
 
-  front-d : take (dLength (f .kind)) (dBytes (f .body) (f .kind)) ≡ take (dLength (f .kind)) (drop 12 part)
+  pub front-d : take (dLength (f .kind)) (dBytes (f .body) (f .kind)) ≡ take (dLength (f .kind)) (drop 12 part)
   unfolding recordOf
   front-d =
       sym (take-at (take (dLength (f .kind)) (dBytes (f .body) (f .kind))) rest (dLength (f .kind)) (d-long (f .body) (f .kind)))

@@ -78,7 +78,7 @@ elem-or i (p ∷ ps) qs m = go (eqb i p) m (elem-or i ps qs)
     go true m rest = inl refl
     go false m rest = rest m
 
-ones-last : (bs : List Bool) (x : Bool) → ones (bs ++ (x ∷ [])) ≡ ones bs + toN x
+pub ones-last : (bs : List Bool) (x : Bool) → ones (bs ++ (x ∷ [])) ≡ ones bs + toN x
 ones-last [] x = omega arith
 ones-last (b ∷ bs) x = omega (arith, ones-last bs x)
 
@@ -239,7 +239,7 @@ module _ (g : Word) where
           let e = toN-lt t in
           rw (one p (omega arith), one q (omega arith), one r (omega arith), one s (omega arith), one t (omega arith))
 
-  extended-top : (k : Kind) → framed g k ≡ true → extended g k ≡ fromTop (bitsAt g (extendedPlaces k))
+  pub extended-top : (k : Kind) → framed g k ≡ true → extended g k ≡ fromTop (bitsAt g (extendedPlaces k))
   unfolding extended
   extended-top Speech a = refl
   extended-top Data a = refl

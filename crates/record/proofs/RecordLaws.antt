@@ -103,7 +103,7 @@ pub copy-turn : (out out₀ bytes : List ℕ) (j : ℕ) → out ≡ paste out₀
 copy-turn out out₀ bytes j e h l = rw (e, add-one) (paste-suc out₀ 12 bytes j 0 h l)
 
 -- the D bits of a body, as bytes, are those of the octets that it is cut from
-bytes-cut : (g : Word) (k : Kind) → dBytes (wordAt g 0 (bodyOf k)) k ≡ dBytes g k
+pub bytes-cut : (g : Word) (k : Kind) → dBytes (wordAt g 0 (bodyOf k)) k ≡ dBytes g k
 unfolding dBytes
 bytes-cut g k = ap (λ bs. map (λ j. fromTop (drop (8 * j) bs)) (count 19 0)) (d-cut g k)
 
