@@ -6,7 +6,7 @@ use mathlib.Core.Bool.{Bool, true, false, cond}
 use mathlib.Core.List.{List, [], _∷_, _++_, map}
 use Prim.Native.Nat.{ℕ, zero, suc, _+_, _*_, _-_, _/_, _%_, _^_, _<_, _≤_}
 use native.Mathlib.Omega.{arith}
-use native.Mathlib.Nat.{not-suc-le-zero, le-of-suc-le-suc, zero-add}
+use native.Mathlib.Nat.{add-zero, not-suc-le-zero, le-of-suc-le-suc, zero-add}
 use native.Mathlib.Decide.{decLt}
 use native.Mathlib.Numerals.{add-one}
 use borrow.Author.Tests.{eq-eqb}
@@ -242,3 +242,29 @@ pub dBytes-past : (g : Word) (k : Kind) (i : ℕ) → dCount k ≤ i → i < 152
 dBytes-past g k i past h =
     let l : length (bitsAt g (dPlaces k)) ≤ i = rw (length-map (dPlaces k) g, d-length k) past in
     bytes-bit g k i h ∙ List·getD-eq-default (bitsAt g (dPlaces k)) false {n = i} l
+
+-- a list that is filled from the front, and whose other elements are zero, is filled whole with zeros there
+zeros-rest : (f : ℕ → ℕ) (m a : ℕ) → ((k : ℕ) → k < m → f (a + k) ≡ 0) → replicate m 0 ≡ map f (count m a)
+zeros-rest f zero a z = refl
+zeros-rest f (suc m) a z =
+    let first : f a ≡ 0 = ap f (sym (add-zero a)) ∙ z 0 (omega arith) in
+    let rest = zeros-rest f m (suc a) (λ k l.
+    let e : suc a + k ≡ a + suc k = omega arith in
+    ap f e ∙ z (suc k) (omega arith)) in
+    rw (first, rest)
+
+fill-rest : (f : ℕ → ℕ) (n m a : ℕ) → n ≤ m → ((k : ℕ) → n ≤ k → k < m → f (a + k) ≡ 0) → map f (count n a) ++ drop n (replicate m 0) ≡ map f (count m a)
+fill-rest f zero m a h z = zeros-rest f m a (λ k l. z k (omega arith) l)
+fill-rest f (suc n) zero a h z = absurd (omega arith)
+fill-rest f (suc n) (suc m) a h z =
+    ap (λ (l : List ℕ). f a ∷ l)
+    (fill-rest f n m (suc a) (omega arith) (λ k l u.
+    let e : suc a + k ≡ a + suc k = omega arith in
+    ap f e ∙ z (suc k) (omega arith) (omega arith)))
+
+-- so bytes behind the last D bit need not be filled
+pub bytes-rest : (bs : List Bool) (n : ℕ) → (length bs + 7) / 8 ≤ n → n ≤ 19
+    → map (λ j. fromTop (drop (8 * j) bs)) (count n 0) ++ drop n (replicate 19 0) ≡ map (λ j. fromTop (drop (8 * j) bs)) (count 19 0)
+bytes-rest bs n e l =
+    fill-rest (λ j. fromTop (drop (8 * j) bs)) n 19 0 l
+    (λ k a b. rw (zero-add k, drop-of-length-le bs {i = 8 * k} (omega arith)))

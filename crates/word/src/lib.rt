@@ -33,16 +33,24 @@ pub fn all_are(o: [u8; 20], places: &[u8], value: bool) -> bool
     true
 }
 
+// The bits at the places as a number, the first on top; the octets are lent.
+fn field(o: &[u8], places: &[u8]) -> u32
+    requires { ⌜ (length (now o) ≡ 20) × Below 160 (now places) × (length (now places) ≤ 8) ⌝ }
+    ensures { λ r. ⌜ r ≡ number (bitsAt (bitAt (now (o .entry))) (now (places .entry))) ⌝ }
+{
+    let mut field: u32 = 0;
+    for j in 0..places.len() {
+        field = with_bit(field, bit_at(o, places, j));
+    }
+    field
+}
+
 // The bits at the places as a number, the first on top.
 pub fn packed(o: [u8; 20], places: &[u8]) -> u32
     requires { ⌜ Below 160 (now places) × (length (now places) ≤ 8) ⌝ }
     ensures { λ r. ⌜ r ≡ number (bitsAt (bitAt o) (now (places .entry))) ⌝ }
 {
-    let mut field: u32 = 0;
-    for j in 0..places.len() {
-        field = with_bit(field, bit_at(&o, places, j));
-    }
-    field
+    field(&o, places)
 }
 
 // A packed field with one bit more.
@@ -61,13 +69,21 @@ fn padded(field: u32, n: usize) -> u8
     ((field << (8 - n)) % 256) as u8
 }
 
+// The bits at the places in a byte, from the top, the rest zero; the octets are lent.
+pub fn lent_byte(o: &[u8], places: &[u8]) -> u8
+    requires { ⌜ (length (now o) ≡ 20) × Below 160 (now places) × (length (now places) ≤ 8) ⌝ }
+    ensures { λ r. ⌜ r ≡ fromTop (bitsAt (bitAt (now (o .entry))) (now (places .entry))) ⌝ }
+{
+    let field = field(o, places);
+    padded(field, places.len())
+}
+
 // The bits at the places in a byte, from the top, the rest zero.
 pub fn top_byte(o: [u8; 20], places: &[u8]) -> u8
     requires { ⌜ Below 160 (now places) × (length (now places) ≤ 8) ⌝ }
     ensures { λ r. ⌜ r ≡ fromTop (bitsAt (bitAt o) (now (places .entry))) ⌝ }
 {
-    let field = packed(o, places);
-    padded(field, places.len())
+    lent_byte(&o, places)
 }
 
 // Whether a packed field has an odd number of ones, by the language's own count.

@@ -35,11 +35,11 @@ part-eight-end c = search needs
 
 eight-requires : tie.Need-eight-requires
 eight-requires c κs =
-    let b = eight-below (c .before .before .before .before .args .part .now) _ (c .before .before .least .result) (c .before .least2 .result) (c .before .before .least .ensures) (c .before .least2 .ensures) (c .before .before .before .before .pre .0) in
-    (b .0, b .1, part-rises (c .before .before .before .before .args .part .now) (c .before .before .least .result) (c .before .least2 .result - c .before .before .least .result) (c .before .before .before .before .pre .2))
+    let b = eight-below (c .before .before .before .before .before .args .part .now) _ (c .before .before .least .result) (c .before .least2 .result) (c .before .before .least .ensures) (c .before .least2 .ensures) (c .before .before .before .before .before .pre .1) in
+    (c .before .before .before .before .before .pre .0, b .0, b .1, part-rises (c .before .before .before .before .before .args .part .now) (c .before .before .least .result) (c .before .least2 .result - c .before .before .least .result) (c .before .before .before .before .before .pre .3))
 
 returns : tie.Need-returns
-returns c = c .eight .ensures ∙ byte-of (bitAt (c .before .before .before .before .before .args .o)) (c .before .before .before .before .before .args .part .now) (c .before .before .before .before .before .args .j) (c .before .before .before .least .result) (c .before .before .least2 .result) (c .before .before .before .least .ensures) (c .before .before .least2 .ensures)
+returns c = c .eight .ensures ∙ byte-of (bitAt (c .before .before .before .before .before .before .args .o .now)) (c .before .before .before .before .before .before .args .part .now) (c .before .before .before .before .before .before .args .j) (c .before .before .before .least .result) (c .before .before .least2 .result) (c .before .before .before .least .ensures) (c .before .before .least2 .ensures)
 
 pub d-byte-spec : {M : Type 1} → statement M
 d-byte-spec =
