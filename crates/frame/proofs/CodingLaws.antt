@@ -2,12 +2,12 @@
 -- Assumes nothing.
 use mathlib.Core.Path.{_≡_, refl, sym, _∙_, ap, fun-ext}
 use mathlib.Core.Bool.{Bool, true, false, not, _&&_, cond, Bool·beq}
-use mathlib.Core.List.{List, [], _∷_}
+use mathlib.Core.List.{List, [], _∷_, _++_}
 use Prim.Native.Nat.{ℕ, zero, suc, _+_, _*_, _/_, _%_, _<_, _≤_, zero-le}
 use native.Mathlib.Omega.{arith}
 use borrow.Author.Tests.{eq-eqb, ne-eqb, eqb-true}
-use lib.Dec.{T, eqb, ltb, ltb→lt}
-use lib.ListN.{length, getD}
+use lib.Dec.{T, eqb, ltb, ltb→lt, eqb→eq}
+use lib.ListN.{length, getD, drop}
 use Rattle.bits.specs.Bit.{toN, number, count}
 use Rattle.bits.proofs.BitLaws.{toN-lt, toN-one}
 use Rattle.channel.specs.declared.Direction.{Direction}
@@ -23,6 +23,7 @@ use Rattle.channel.proofs.BoolLaws.{all-at, and-both, and-false, never}
 use Rattle.channel.proofs.DLaws.{elem-count}
 use Rattle.channel.proofs.FrameLaws.{onlyPattern, one-pattern, one-body}
 use Rattle.word.specs.Below.{Below}
+use Rattle.word.specs.Covered.{Steady, Covered}
 use Rattle.frame.specs.declared.coding.Found.{Found}
 use Rattle.frame.specs.declared.coding.Found.the-variants.{Is, Nothing}
 use Rattle.frame.specs.declared.coding.Sync.{Sync}
@@ -42,6 +43,36 @@ pub listed-below : (m : ℕ) (ps : List ℕ) → T (allLt m ps) → Below m ps
 listed-below m [] t j h = absurd (omega arith)
 listed-below m (p ∷ ps) t zero h = ltb→lt p m (both (ltb p m) (allLt m ps) t .0)
 listed-below m (p ∷ ps) t (suc j) h = listed-below m ps (both (ltb p m) (allLt m ps) t .1) j (omega arith)
+
+-- a list that a test finds to start with another
+abbrev starts : List ℕ → List ℕ → Bool
+starts [] ps = true
+starts (x ∷ xs) [] = false
+starts (x ∷ xs) (p ∷ ps) = eqb p x && starts xs ps
+
+split-off : (xs ps : List ℕ) → T (starts xs ps) → ps ≡ xs ++ drop (length xs) ps
+split-off [] ps t = refl
+split-off (x ∷ xs) [] t = absurd t
+split-off (x ∷ xs) (p ∷ ps) t =
+    let b = both (eqb p x) (starts xs ps) t in
+    λ i. eqb→eq p x (b .0) i ∷ split-off xs ps (b .1) i
+
+-- a list that a test finds to be one that a CRC may cover
+abbrev ended : ℕ → List ℕ → Bool
+ended p ps = cond (eqb (p % 8) 1 && eqb (getD ps 5 0) (p + 6)) (starts (count 7 p) (p ∷ ps)) true
+
+abbrev steady : List ℕ → Bool
+steady [] = true
+steady (p ∷ ps) = ended p ps && steady ps
+
+listed-steady : (ps : List ℕ) → T (steady ps) → Steady ps
+listed-steady [] t zero h e = absurd (omega arith)
+listed-steady [] t (suc j) h e = absurd (omega arith)
+listed-steady (p ∷ ps) t zero h e = split-off (count 7 p) (p ∷ ps) (rw (eq-eqb (p % 8) 1 h, eq-eqb (getD ps 5 0) (p + 6) e) at (both (ended p ps) (steady ps) t .0))
+listed-steady (p ∷ ps) t (suc j) h e = listed-steady ps (both (ended p ps) (steady ps) t .1) j h e
+
+pub listed-covered : (ps : List ℕ) → T (allLt 160 ps && steady ps) → Covered ps
+listed-covered ps t = let b = both (allLt 160 ps) (steady ps) t in (listed-below 160 ps (b .0), listed-steady ps (b .1))
 
 beq-false : (b : Bool) → Bool·beq b false ≡ not b
 beq-false true = refl

@@ -6,7 +6,7 @@ ghost use Prim.Native.Nat.{_+_, _*_, _≤_};
 ghost use lib.Dec.{eqb};
 ghost use Rattle.bits.specs.Bit.{bitAt, toN};
 ghost use Rattle.channel.specs.Checks.{checksLower};
-ghost use Rattle.word.specs.Below.{Below};
+ghost use Rattle.word.specs.Covered.{Covered};
 ghost use Rattle.channel.specs.Verdict.{ownMode, contextMode, wrongs, verdictOf, afterOf};
 ghost use Rattle.frame.specs.Modes.{ModesIn};
 use crate::places;
@@ -78,7 +78,7 @@ fn modes_in(o: [u8; 20], x: u8) -> Modes
 
 // The wrong ones of four CRCs, as bits: CRC1 is bit 0.
 fn four_wrongs(o: [u8; 20], crc1: &[u8], crc2: &[u8], crc3: &[u8], crc4: &[u8]) -> u8
-    requires { ⌜ Below 160 (now crc1) × Below 160 (now crc2) × Below 160 (now crc3) × Below 160 (now crc4) ⌝ }
+    requires { ⌜ Covered (now crc1) × Covered (now crc2) × Covered (now crc3) × Covered (now crc4) ⌝ }
     ensures { λ r. ⌜ r ≡ wrongs (bitAt o) (now (crc1 .entry) ∷ now (crc2 .entry) ∷ now (crc3 .entry) ∷ now (crc4 .entry) ∷ []) ⌝ }
 {
     let w1 = wrong(word::crc_right(o, crc1));

@@ -15,10 +15,8 @@ use lib.Pow.{shl-lt}
 use lib.Seq.{drop-cons}
 use Rattle.bits.specs.Bit.{toN, numberFrom, number}
 use Rattle.bits.proofs.BitLaws.{toN-lt}
-use Rattle.channel.specs.Poly.{_⊕_, Rem}
 use Rattle.channel.specs.Coding.{Word, bitsAt, all, ones, odd}
 use Rattle.channel.specs.Control.{fromTop}
-use Rattle.channel.specs.Crc.{push, remFrom, rem, right}
 
 module _ (ps : List ℕ) (j : ℕ) where
   -- a test over the places
@@ -35,13 +33,6 @@ module _ (ps : List ℕ) (j : ℕ) where
   pub number-end : (g : Word) (a : ℕ) → length ps ≤ j → numberFrom a (bitsAt g (drop j ps)) ≡ a
   number-end g a h = rw (drop-of-length-le ps h)
 
-  -- the remainder over the places
-  pub rem-turn : (g : Word) (r : Rem) → j < length ps → remFrom r (bitsAt g (drop j ps)) ≡ remFrom (push r (g (getD ps j 0))) (bitsAt g (drop (j + 1) ps))
-  rem-turn g r h = rw (add-one, drop-cons ps j 0 h)
-
-  pub rem-end : (g : Word) (r : Rem) → length ps ≤ j → remFrom r (bitsAt g (drop j ps)) ≡ r
-  rem-end g r h = rw (drop-of-length-le ps h)
-
 -- what a bit that was compared with a value says of the test over all the places
 module _ (g : Word) (value : Bool) (ps : List ℕ) (j : ℕ) (b : Bool) (within : j < length ps) (so-far : all (λ p. Bool·beq (g p) value) ps ≡ all (λ p. Bool·beq (g p) value) (drop j ps)) (read : b ≡ g (getD ps j 0)) where
   pub all-stops : not (Bool·beq b value) ≡ true → false ≡ all (λ p. Bool·beq (g p) value) ps
@@ -53,41 +44,6 @@ module _ (g : Word) (value : Bool) (ps : List ℕ) (j : ℕ) (b : Bool) (within 
   all-goes h =
       let e : Bool·beq (g (getD ps j 0)) value ≡ true = rw read at (not-false (Bool·beq b value) h) in
       so-far ∙ all-turn ps j (λ p. Bool·beq (g p) value) within ∙ ap (λ (t : Bool). t && all (λ p. Bool·beq (g p) value) (drop (j + 1) ps)) e
-
--- a remainder held as three bools, and a turn of it as the code makes it
-abbrev pub held : Bool → Bool → Bool → Rem
-held a b c = record { r2 = a; r1 = b; r0 = c }
-
-differ : (a b : Bool) → a ⊕ b ≡ not (Bool·beq a b)
-differ true true = refl
-differ true false = refl
-differ false true = refl
-differ false false = refl
-
-pub held-turn : (a b c e : Bool) → push (held a b c) e ≡ held b (not (Bool·beq c a)) (not (Bool·beq e a))
-held-turn a b c e i = record { r2 = b; r1 = differ c a i; r0 = differ e a i }
-
-pub rem-goes : (g : Word) (ps : List ℕ) (j : ℕ) (a b c e : Bool) → j < length ps → rem (bitsAt g ps) ≡ remFrom (held a b c) (bitsAt g (drop j ps)) → e ≡ g (getD ps j 0)
-    → rem (bitsAt g ps) ≡ remFrom (held b (not (Bool·beq c a)) (not (Bool·beq e a))) (bitsAt g (drop (j + 1) ps))
-rem-goes g ps j a b c e h so-far read =
-    so-far ∙ rem-turn ps j g (held a b c) h ∙ ap (λ (t : Bool). remFrom (push (held a b c) t) (bitsAt g (drop (j + 1) ps))) (sym read)
-    ∙ ap (λ (r : Rem). remFrom r (bitsAt g (drop (j + 1) ps))) (held-turn a b c e)
-
--- at the end the three bools are the remainder
-pub rem-right : (g : Word) (ps : List ℕ) (j : ℕ) (a b c : Bool) → length ps ≤ j → rem (bitsAt g ps) ≡ remFrom (held a b c) (bitsAt g (drop j ps)) → a && b && c ≡ right g ps
-unfolding right
-rem-right g ps j a b c h so-far = ap (λ (r : Rem). r .r2 && r .r1 && r .r0) (sym (so-far ∙ rem-end ps j g (held a b c) h))
-
--- the ways out of the division
-module _ (a b c d : Bool) (e : a && b && c ≡ d) where
-  pub left-111 : a ≡ true → b ≡ true → c ≡ d
-  left-111 p q = rw (p, q) at e
-
-  pub left-10 : a ≡ true → b ≡ false → false ≡ d
-  left-10 p q = rw (p, q) at e
-
-  pub left-0 : a ≡ false → false ≡ d
-  left-0 p = rw p at e
 
 -- a bit read and put behind the field
 pub number-goes : (g : Word) (ps : List ℕ) (j field : ℕ) (b : Bool) (next : ℕ) → j < length ps → number (bitsAt g ps) ≡ numberFrom field (bitsAt g (drop j ps)) → b ≡ g (getD ps j 0) → next ≡ 2 * field + toN b

@@ -7,7 +7,7 @@ use mathlib.Core.List.{[]}
 use lib.ListN.{getD}
 use Rattle.channel.specs.Places.{dPlaces}
 use Rattle.channel.specs.Checks.{checks475, checks515, checks590}
-use Rattle.frame.proofs.CodingLaws.{listed-below}
+use Rattle.frame.proofs.CodingLaws.{listed-covered}
 use Rattle.frame.proofs.VerdictLaws.{lower-lt, one-wrong}
 use borrow.Author.Needs.{needs}
 use Rattle.frame.proofs.verdict.lower_verdict.Statement.{statement}
@@ -27,7 +27,7 @@ slice-aggregate-four-wrongs-4 c = search needs
 
 four-wrongs-requires : tie.Need-four-wrongs-requires
 unfolding dPlaces
-four-wrongs-requires c κs = (listed-below 160 (getD checks475 0 []) tt, listed-below 160 (getD checks475 1 []) tt, listed-below 160 (getD checks475 2 []) tt, listed-below 160 (getD checks475 3 []) tt)
+four-wrongs-requires c κs = (listed-covered (getD checks475 0 []) tt, listed-covered (getD checks475 1 []) tt, listed-covered (getD checks475 2 []) tt, listed-covered (getD checks475 3 []) tt)
 
 add-result : tie.Need-add-result
 unfolding dPlaces
@@ -51,7 +51,7 @@ slice-aggregate-four-wrongs-8 c = search needs
 
 four-wrongs-requires-2 : tie.Need-four-wrongs-requires-2
 unfolding dPlaces
-four-wrongs-requires-2 c κs = (listed-below 160 (getD checks515 0 []) tt, listed-below 160 (getD checks515 1 []) tt, listed-below 160 (getD checks515 2 []) tt, listed-below 160 (getD checks515 3 []) tt)
+four-wrongs-requires-2 c κs = (listed-covered (getD checks515 0 []) tt, listed-covered (getD checks515 1 []) tt, listed-covered (getD checks515 2 []) tt, listed-covered (getD checks515 3 []) tt)
 
 add-result-2 : tie.Need-add-result-2
 unfolding dPlaces
@@ -66,7 +66,7 @@ slice-aggregate-crc-right c = search needs
 
 crc-right-requires : tie.Need-crc-right-requires
 unfolding dPlaces
-crc-right-requires c κs = listed-below 160 (getD checks590 0 []) tt
+crc-right-requires c κs = listed-covered (getD checks590 0 []) tt
 
 wrong-requires : tie.Need-wrong-requires
 wrong-requires c κs = search needs

@@ -9,7 +9,7 @@ use Rattle.channel.specs.declared.Kind.the-variants.{Speech, Amr670, Amr740}
 use Rattle.channel.specs.Places.{dPlaces}
 use Rattle.channel.specs.Checks.{checks}
 use Rattle.channel.specs.Verdict.{verdictOf}
-use Rattle.frame.proofs.CodingLaws.{listed-below}
+use Rattle.frame.proofs.CodingLaws.{listed-covered}
 use Rattle.frame.proofs.VerdictLaws.{one-verdict, lower-verdict}
 use borrow.Author.Needs.{needs}
 use Rattle.frame.proofs.verdict.verdict_in.Statement.{statement}
@@ -23,7 +23,7 @@ slice-aggregate-crc-right c = search needs
 
 crc-right-requires : tie.Need-crc-right-requires
 unfolding dPlaces checks
-crc-right-requires c κs = listed-below 160 (getD (checks 0 Speech) 0 []) tt
+crc-right-requires c κs = listed-covered (getD (checks 0 Speech) 0 []) tt
 
 wrong-requires : tie.Need-wrong-requires
 wrong-requires c κs = search needs
@@ -57,7 +57,7 @@ slice-aggregate-crc-right-2 c = search needs
 
 crc-right-requires-2 : tie.Need-crc-right-requires-2
 unfolding dPlaces checks
-crc-right-requires-2 c κs = listed-below 160 (getD (checks 0 Amr670) 0 []) tt
+crc-right-requires-2 c κs = listed-covered (getD (checks 0 Amr670) 0 []) tt
 
 wrong-requires-2 : tie.Need-wrong-requires-2
 wrong-requires-2 c κs = search needs
@@ -70,7 +70,7 @@ slice-aggregate-crc-right-3 c = search needs
 
 crc-right-requires-3 : tie.Need-crc-right-requires-3
 unfolding dPlaces checks
-crc-right-requires-3 c κs = listed-below 160 (getD (checks 0 Amr740) 0 []) tt
+crc-right-requires-3 c κs = listed-covered (getD (checks 0 Amr740) 0 []) tt
 
 wrong-requires-3 : tie.Need-wrong-requires-3
 wrong-requires-3 c κs = search needs
