@@ -6,18 +6,14 @@
  * which are 0. Other numbers are free for later calls. Placement: bit 0 set puts the input at the end of its pages, bit 1 the buffer; clear, at their
  * start. A reply is the six numbers of the answer, a number of flags, and the buffer. */
 #define _GNU_SOURCE
+#include "bellrope.h"
+
 #include <stdint.h>
 #include <stdio.h>
 #include <stdlib.h>
 #include <string.h>
 #include <sys/mman.h>
 #include <unistd.h>
-
-typedef struct { uint64_t number, index, items, bytes, position, context; } bellrope_answer;
-bellrope_answer bellrope_page(const uint8_t *capture, size_t capture_len, uint64_t n, uint64_t direction, uint64_t position, uint64_t context,
-                              uint64_t most, uint8_t *buffer, size_t buffer_len);
-bellrope_answer bellrope_write(const uint8_t *records, size_t records_len, uint64_t direction, uint64_t position, uint64_t context, uint8_t *buffer,
-                               size_t buffer_len);
 
 enum { CALL_PAGE = 1, CALL_WRITE = 2 };
 enum { INPUT_CHANGED = 1, INPUT_GUARD_CHANGED = 2, BUFFER_GUARD_CHANGED = 4 };
