@@ -1,0 +1,177 @@
+/* harvest up|down FILE [PAGE_BYTES] [--csv]: reads a capture to its end, page by page, and prints what is in it.
+ *
+ * FILE holds the channel's bits and nothing else, the first bit sent being the top bit of the first byte; n is eight times its length. PAGE_BYTES is the
+ * size of a page, 4096 if none is given. It does not change what is printed, but a page must fit its first record: 31 bytes fit any.
+ *
+ * The summary counts the items and their bits, and for each kind of frame:
+ *   frames              all of them
+ *   right, wrong        those with every CRC right, and those with one wrong or more; kinds 2 to 4 have no CRC and stand in none of these columns
+ *   unchecked           those whose CRCs cannot be checked: No_Speech, and lower speech of which no mode is known
+ *   slipped             those whose tail is not the usual one of the kind
+ *   dropped, added      the bits that these tails are short of the usual, and those they have beyond it, each summed over the frames
+ * The capture's last tail ends at n, even if more of it was sent.
+ *
+ * With --csv it prints instead one line for each record, kind,start,tail,control,extended,verdict,D: decimal, the D bits in hexadecimal as they stand in
+ * the record. A gap is kind 0; it has its length for a tail, and the rest is empty.
+ *
+ * Exit status: 0 the capture was read to its end; 1 a page was refused, and standard error says why (lines of earlier pages stand); 2 bad usage, FILE
+ * cannot be read, no memory for a page, or the output cannot be written. */
+#include "bellrope.h"
+
+#include <errno.h>
+#include <inttypes.h>
+#include <stdio.h>
+#include <stdlib.h>
+#include <string.h>
+
+enum { KINDS = 9 };
+
+/* What the summary needs to know of a kind beyond its record. */
+static const struct {
+	const char *name;
+	uint32_t usual_tail;
+	int has_crc;
+} kinds[KINDS] = {
+	{"0 gap", 0, 0},       {"1 HR speech", 2, 1},    {"2 data", 1, 0}, {"3 O&M", 1, 0},  {"4 configuration", 2, 0},
+	{"5 No_Speech", 2, 1}, {"6 lower speech", 1, 1}, {"7 6,70", 0, 1}, {"8 7,40", 0, 1},
+};
+
+/* The counts of one kind; of gaps, only the items. */
+typedef struct {
+	uint64_t items, right, wrong, unchecked, slipped, dropped, added;
+} counts;
+
+typedef struct {
+	counts of[KINDS];
+	uint64_t gap_bits;
+} summary;
+
+static void count(summary *s, const uint8_t *record) {
+	uint8_t kind = record[BELLROPE_AT_KIND];
+	counts *c = &s->of[kind];
+	c->items++;
+	if (kind == BELLROPE_GAP) {
+		s->gap_bits += bellrope_number_at(record + BELLROPE_AT_LENGTH);
+		return;
+	}
+	uint8_t verdict = record[BELLROPE_AT_VERDICT];
+	if (verdict & BELLROPE_UNCHECKED) c->unchecked++;
+	else if (verdict & BELLROPE_WRONG) c->wrong++;
+	else if (kinds[kind].has_crc) c->right++;
+	uint32_t tail = bellrope_number_at(record + BELLROPE_AT_TAIL), usual = kinds[kind].usual_tail;
+	if (tail != usual) c->slipped++;
+	if (tail < usual) c->dropped += usual - tail;
+	if (tail > usual) c->added += tail - usual;
+}
+
+static void print_counts(const char *name, int has_crc, const counts *c) {
+	printf("%-16s%8" PRIu64, name, c->items);
+	if (has_crc) printf("%8" PRIu64 "%8" PRIu64 "%11" PRIu64, c->right, c->wrong, c->unchecked);
+	else printf("%8s%8s%11s", "-", "-", "-");
+	printf("%9" PRIu64 "%9" PRIu64 "%7" PRIu64 "\n", c->slipped, c->dropped, c->added);
+}
+
+static void print_summary(const summary *s, uint64_t direction, uint64_t n) {
+	counts all = {0};
+	for (int k = 1; k < KINDS; k++) {
+		all.items += s->of[k].items;
+		all.right += s->of[k].right;
+		all.wrong += s->of[k].wrong;
+		all.unchecked += s->of[k].unchecked;
+		all.slipped += s->of[k].slipped;
+		all.dropped += s->of[k].dropped;
+		all.added += s->of[k].added;
+	}
+	printf("%s, %" PRIu64 " bits\n", direction == BELLROPE_UPLINK ? "uplink" : "downlink", n);
+	printf("frames: %" PRIu64 " in %" PRIu64 " bits\n", all.items, n - s->gap_bits);
+	printf("gaps: %" PRIu64 " in %" PRIu64 " bits\n\n", s->of[BELLROPE_GAP].items, s->gap_bits);
+	printf("kind              frames   right   wrong  unchecked  slipped  dropped  added\n");
+	for (int k = 1; k < KINDS; k++) print_counts(kinds[k].name, kinds[k].has_crc, &s->of[k]);
+	print_counts("all", 1, &all);
+}
+
+static void print_record(const uint8_t *record) {
+	size_t bytes = bellrope_record_bytes(record[BELLROPE_AT_KIND]);
+	printf("%u,%" PRIu32 ",%" PRIu32 ",", record[BELLROPE_AT_KIND], bellrope_number_at(record + BELLROPE_AT_START),
+	       bellrope_number_at(record + BELLROPE_AT_TAIL));
+	if (record[BELLROPE_AT_KIND] == BELLROPE_GAP) printf(",,,");
+	else printf("%u,%u,%u,", record[BELLROPE_AT_CONTROL], record[BELLROPE_AT_EXTENDED], record[BELLROPE_AT_VERDICT]);
+	for (size_t at = BELLROPE_AT_D; at < bytes; at++) printf("%02x", record[at]);
+	printf("\n");
+}
+
+/* Says why a page was refused, and what to do. */
+static void explain(uint64_t number, const char *file, size_t page_bytes) {
+	fprintf(stderr, "harvest: refused with number %" PRIu64 ": ", number);
+	if (number == BELLROPE_TOO_LONG) fprintf(stderr, "%s has more than %d bytes. Give a shorter capture.\n", file, BELLROPE_BYTES_MOST);
+	else if (number == BELLROPE_NO_ROOM)
+		fprintf(stderr, "the next record does not fit a page of %zu bytes. Give at least %d.\n", page_bytes, BELLROPE_RECORD_MOST);
+	else fprintf(stderr, "bellrope.h says what that means. It should not happen here.\n");
+}
+
+/* The harvest: each page is asked with the cursor that the last one answered, until the position is n. Answers the number of the refusal, or 0. */
+static uint64_t harvest(const uint8_t *capture, size_t len, uint64_t direction, uint8_t *page, size_t page_bytes, summary *s, int csv) {
+	uint64_t n = 8 * (uint64_t)len, position = 0, context = BELLROPE_SEARCHING;
+	do {
+		bellrope_answer a = bellrope_page_or_null(capture, len, n, direction, position, context, UINT64_MAX, page, page_bytes);
+		if (a.number != BELLROPE_TAKEN) return a.number;
+		for (size_t at = 0; at < a.bytes; at += bellrope_record_bytes(page[at])) {
+			if (csv) print_record(page + at);
+			else count(s, page + at);
+		}
+		position = a.position;
+		context = a.context;
+	} while (position != n);
+	return BELLROPE_TAKEN;
+}
+
+/* Reads a file, up to one byte more than a capture may have: the library then refuses it. Answers 0 if it cannot be read. */
+static int read_file(const char *file, uint8_t *bytes, size_t most, size_t *len) {
+	FILE *f = fopen(file, "rb");
+	if (!f) return 0;
+	*len = fread(bytes, 1, most, f);
+	int bad = ferror(f);
+	return fclose(f) == 0 && !bad;
+}
+
+/* Reads a size in decimal; answers 0 if the word is none. */
+static int read_size(const char *word, size_t *size) {
+	char *end;
+	errno = 0;
+	*size = strtoull(word, &end, 10);
+	return word[0] >= '0' && word[0] <= '9' && *end == '\0' && errno == 0;
+}
+
+static int usage(void) {
+	fprintf(stderr, "usage: harvest up|down FILE [PAGE_BYTES] [--csv]\n");
+	return 2;
+}
+
+int main(int argc, char **argv) {
+	static uint8_t capture[BELLROPE_BYTES_MOST + 1];
+	static summary s;
+	size_t len, page_bytes = 4096;
+	int csv = argc > 1 && strcmp(argv[argc - 1], "--csv") == 0, words = argc - csv;
+	if (words < 3 || words > 4 || (words == 4 && !read_size(argv[3], &page_bytes))) return usage();
+	int down = strcmp(argv[1], "down") == 0;
+	if (!down && strcmp(argv[1], "up")) return usage();
+	uint64_t direction = down ? BELLROPE_DOWNLINK : BELLROPE_UPLINK;
+	if (!read_file(argv[2], capture, sizeof capture, &len)) {
+		fprintf(stderr, "harvest: %s cannot be read: %s\n", argv[2], strerror(errno));
+		return 2;
+	}
+	uint8_t *page = malloc(page_bytes);
+	if (!page && page_bytes) {
+		fprintf(stderr, "harvest: there is no memory for a page of %zu bytes. Give fewer.\n", page_bytes);
+		return 2;
+	}
+	uint64_t number = harvest(capture, len, direction, page, page_bytes, &s, csv);
+	free(page);
+	if (number == BELLROPE_TAKEN && !csv) print_summary(&s, direction, 8 * (uint64_t)len);
+	if (fflush(stdout) || ferror(stdout)) {
+		fprintf(stderr, "harvest: the output cannot be written: %s\n", strerror(errno));
+		return 2;
+	}
+	if (number != BELLROPE_TAKEN) explain(number, argv[2], page_bytes);
+	return number == BELLROPE_TAKEN ? 0 : 1;
+}
