@@ -2,8 +2,8 @@
  * same program with the same arguments gives the same number on every run, unless it looks at the clock or the like.
  *
  * It counts one by one: a block of translated code may stop before its last instruction where that crosses a page. The few prototypes of QEMU's plugin
- * interface that it needs are declared here, for Debian ships no header; they are the same in every version of it. INTERFACE is the version that the
- * emulator shall take it for. */
+ * interface that it needs are declared here, for Debian ships no header. INTERFACE is the version of it that the emulator shall take this for; tried is 1,
+ * that of QEMU 7.2. */
 #include <inttypes.h>
 #include <stddef.h>
 #include <stdio.h>
