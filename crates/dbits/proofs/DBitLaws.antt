@@ -1,20 +1,19 @@
 -- The table of D bits against the rule of each kind, and the D bits in bytes: which bits a byte has, and which bit is which D bit.
 -- Assumes nothing.
 use mathlib.Core.Path.{_≡_, refl, sym, _∙_, ap}
-use mathlib.Core.Logic.{by-cases}
 use mathlib.Core.Bool.{Bool, true, false, cond}
 use mathlib.Core.List.{List, [], _∷_, _++_, map}
 use Prim.Native.Nat.{ℕ, zero, suc, _+_, _*_, _-_, _/_, _%_, _^_, _<_, _≤_}
 use native.Mathlib.Omega.{arith}
 use native.Mathlib.Nat.{add-zero, not-suc-le-zero, le-of-suc-le-suc, zero-add}
-use native.Mathlib.Decide.{decLt}
 use native.Mathlib.Numerals.{add-one}
 use borrow.Author.Tests.{eq-eqb}
 use lib.Dec.{eqb, lit<}
-use lib.ListN.{length, getD, take, drop, replicate, length-map, length-append, length-drop, drop-of-length-le, List·getD-eq-default}
+use lib.ListN.{length-take, length, getD, take, drop, replicate, length-map, length-append, length-drop, drop-of-length-le, List·getD-eq-default}
 use lib.Pow.{shr-shr}
 use lib.Seq.{getD-take, getD-drop, take-all, length-take-le}
 use Rattle.bits.specs.Bit.{bitAt, toN, numberFrom, number, count}
+use Rattle.bits.proofs.BitLaws.{toN-lt, toN-one}
 use Rattle.bits.proofs.CountLaws.{getD-map-count}
 use Rattle.channel.specs.declared.Kind.{Kind}
 use Rattle.channel.specs.declared.Kind.the-variants.{Speech, Data, Om, Configuration, NoSpeech, Lower, Amr670, Amr740}
@@ -115,66 +114,24 @@ bits-drop g zero ps = refl
 bits-drop g (suc n) [] = refl
 bits-drop g (suc n) (p ∷ ps) = bits-drop g n ps
 
--- the places from s on, at most eight: they begin at s or at the end, and end eight later or at the end
-module _ (ps : List ℕ) (s a e : ℕ) (from : a ≡ s - (s - length ps)) (to : e ≡ s + 8 - (s + 8 - length ps)) where
-  -- the lent part has just these
-  part-eight : take (e - a) (drop a ps) ≡ take 8 (drop s ps)
-  part-eight =
-      by-cases (decLt (length ps) s)
-      (λ (past : length ps < s).
-      let z : e - a ≡ 0 = omega arith in
-      rw (z, drop-of-length-le ps {i = s} (omega arith)))
-      (λ (n : ¬ (length ps < s)).
-      let f : a ≡ s = omega arith in
-      rw f
-      (by-cases (decLt (length ps) (s + 8))
-      (λ (short : length ps < s + 8).
-      let l : length (drop s ps) ≡ length ps - s = length-drop s ps in
-      take-all (e - s) (drop s ps) (omega arith) ∙ sym (take-all 8 (drop s ps) (omega arith)))
-      (λ (m : ¬ (length ps < s + 8)).
-      let w : e - s ≡ 8 = omega arith in
-      rw w)))
-
-  -- the lent part has e - a places
-  eight-length : length (take (e - a) (drop a ps)) ≡ e - a
-  eight-length = let l = length-drop a ps in length-take-le (e - a) (drop a ps) (omega arith)
-
-  -- which are at most eight
-  eight-most : e - a ≤ 8
-  eight-most = omega arith
-
-  -- they lie in a frame, as all do
-  pub eight-below : Below 160 ps → Below 160 (take (e - a) (drop a ps)) × (length (take (e - a) (drop a ps)) ≤ 8)
-  eight-below below = (
-    λ i h.
-        let l : i < e - a = rw eight-length at h in
-        rw (getD-take (e - a) (drop a ps) i 0 l, getD-drop a ps i 0) (below (a + i) (omega arith)),
-    rw eight-length eight-most,
-  )
-
 -- the first n bits, with others behind them, begin as all the bits do
 first-seen : (n : ℕ) (bs zs : List Bool) → take n (take n bs ++ zs) ≡ take n (bs ++ zs)
 first-seen zero bs zs = refl
 first-seen (suc n) [] zs = refl
 first-seen (suc n) (b ∷ bs) zs = ap (λ (t : List Bool). b ∷ t) (first-seen n bs zs)
 
--- byte j of a part: a byte from the top shows eight bits only, so those of the places lent are those of all from 8 j on
-pub byte-of : (g : Word) (ps : List ℕ) (j a e : ℕ) → a ≡ 8 * j - (8 * j - length ps) → e ≡ 8 * j + 8 - (8 * j + 8 - length ps)
-    → fromTop (bitsAt g (take (e - a) (drop a ps))) ≡ fromTop (drop (8 * j) (bitsAt g ps))
-byte-of g ps j a e from to =
-    let bits : bitsAt g (take (e - a) (drop a ps)) ≡ take 8 (drop (8 * j) (bitsAt g ps)) =
-    ap (bitsAt g) (part-eight ps (8 * j) a e from to) ∙ bits-take g 8 (drop (8 * j) ps) ∙ ap (take 8) (bits-drop g (8 * j) ps) in
-    ap fromTop bits ∙ ap number (first-seen 8 (drop (8 * j) (bitsAt g ps)) (replicate 8 false))
+-- byte j of a part: a byte from the top shows eight bits only, so those of the eight places lent are those of all from 8 j on
+pub byte-of : (g : Word) (ps : List ℕ) (j n : ℕ) → n ≡ 8 → fromTop (bitsAt g (take n (drop (8 * j) ps))) ≡ fromTop (drop (8 * j) (bitsAt g ps))
+byte-of g ps j n e =
+    ap (λ (k : ℕ). fromTop (bitsAt g (take k (drop (8 * j) ps)))) e
+    ∙ ap fromTop (bits-take g 8 (drop (8 * j) ps) ∙ ap (take 8) (bits-drop g (8 * j) ps))
+    ∙ ap number (first-seen 8 (drop (8 * j) (bitsAt g ps)) (replicate 8 false))
 
--- a bit is 0 or 1
-toN-lt : (b : Bool) → toN b < 2
-toN-lt true = lit< tt
-toN-lt false = lit< tt
-
--- a bit is told by its number
-toN-one : (b : Bool) → eqb (toN b) 1 ≡ b
-toN-one true = refl
-toN-one false = refl
+-- a part of places that lie in a frame
+pub part-below : (ps : List ℕ) (a n : ℕ) → Below 160 ps → Below 160 (take n (drop a ps))
+part-below ps a n h i l =
+    let m : i < n = omega (arith, length-take n (drop a ps)) in
+    rw (getD-take n (drop a ps) i 0 m, getD-drop a ps i 0) (h (a + i) (omega (arith, length-take n (drop a ps), length-drop a ps)))
 
 -- above the bits that are put behind a stands a
 above : (bs : List Bool) (a : ℕ) → numberFrom a bs / 2 ^ length bs ≡ a
@@ -242,6 +199,10 @@ pub dBytes-past : (g : Word) (k : Kind) (i : ℕ) → dCount k ≤ i → i < 152
 dBytes-past g k i past h =
     let l : length (bitsAt g (dPlaces k)) ≤ i = rw (length-map (dPlaces k) g, d-length k) past in
     bytes-bit g k i h ∙ List·getD-eq-default (bitsAt g (dPlaces k)) false {n = i} l
+
+-- what is left of a part, less than eight places
+pub rest-of : (g : Word) (ps : List ℕ) (j n : ℕ) → length (drop (8 * j) ps) ≤ n → fromTop (bitsAt g (take n (drop (8 * j) ps))) ≡ fromTop (drop (8 * j) (bitsAt g ps))
+rest-of g ps j n h = ap (λ (l : List ℕ). fromTop (bitsAt g l)) (take-all n (drop (8 * j) ps) h) ∙ ap fromTop (bits-drop g (8 * j) ps)
 
 -- a list that is filled from the front, and whose other elements are zero, is filled whole with zeros there
 zeros-rest : (f : ℕ → ℕ) (m a : ℕ) → ((k : ℕ) → k < m → f (a + k) ≡ 0) → replicate m 0 ≡ map f (count m a)

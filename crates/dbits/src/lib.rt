@@ -100,42 +100,34 @@ fn joined(upper: u32, lower: u32, n: usize) -> u8
     (upper * weight(n) + lower) as u8
 }
 
-// The bits at no more than eight rising places in a byte, from the top. Mostly they are neighbours in two octets, which are then looked at once each.
+// The bits at eight rising places in a byte, from the top. Mostly they are neighbours in two octets, which are then looked at once each.
 fn eight(o: &[u8], places: &[u8]) -> u8
-    requires { ⌜ (length (now o) ≡ 20) × Below 160 (now places) × (length (now places) ≤ 8) × Rising (now places) ⌝ }
+    requires { ⌜ (length (now o) ≡ 20) × Below 160 (now places) × (length (now places) ≡ 8) × Rising (now places) ⌝ }
     ensures { λ r. ⌜ r ≡ fromTop (bitsAt (bitAt (now (o .entry))) (now (places .entry))) ⌝ }
 {
-    if places.len() == 8 {
-        let p = places[0] as usize;
-        let s = least(8 - p % 8, 7);
-        if two_runs(places, s) {
-            let q = places[s] as usize;
-            return joined(run(o, p, s), run(o, q, 8 - s), 8 - s);
-        }
+    let p = places[0] as usize;
+    let s = least(8 - p % 8, 7);
+    if two_runs(places, s) {
+        let q = places[s] as usize;
+        return joined(run(o, p, s), run(o, q, 8 - s), 8 - s);
     }
     word::lent_byte(o, places)
 }
 
-// Byte j of the D bits at the places of a part of the table: eight of them or what is left, padded with zeros.
-fn d_byte(o: &[u8], part: &[u8], j: usize) -> u8
-    requires { ⌜ (length (now o) ≡ 20) × Below 160 (now part) × (length (now part) ≤ 151) × Rising (now part) × (j < 19) ⌝ }
-    ensures { λ r. ⌜ r ≡ fromTop (drop (8 * j) (bitsAt (bitAt (now (o .entry))) (now (part .entry)))) ⌝ }
-{
-    let a = least(8 * j, part.len());
-    let e = least(8 * j + 8, part.len());
-    eight(o, &part[a..e])
-}
-
-// The D bits at the places of a part of the table in 19 bytes; the bytes behind the last D bit are left zero.
+// The D bits at the places of a part of the table in 19 bytes: eight by eight, then what is left, padded with zeros; the bytes behind are left zero.
 fn part_bytes(o: [u8; 20], part: &[u8]) -> [u8; 19]
     requires { ⌜ Below 160 (now part) × (length (now part) ≤ 151) × Rising (now part) ⌝ }
     ensures { λ r. ⌜ r ≡ map (λ j. fromTop (drop (8 * j) (bitsAt (bitAt o) (now (part .entry))))) (count 19 0) ⌝ }
 {
     let mut out = [0u8; 19];
-    let n = (part.len() + 7) / 8;
-    for j in 0..n {
-        out[j] = d_byte(&o, part, j);
+    let full = part.len() / 8;
+    for j in 0..full {
+        out[j] = eight(&o, &part[8 * j..8 * j + 8]);
     }
+    if 8 * full == part.len() {
+        return out;
+    }
+    out[full] = word::lent_byte(&o, &part[8 * full..]);
     out
 }
 
