@@ -14,7 +14,7 @@ use lib.Dec.{eqb, ltb, lit<}
 use lib.ListN.{length, getD, List·getD-eq-default}
 use lib.Pow.{pow-add, shr-lt, shr-shr, shl-shr, shl-exact, high, low, field, mod-mod-pow}
 use lib.Seq.{ext-getD}
-use Rattle.bits.specs.Bit.{bitAt, toN, numberFrom, count, octetOf, twenty, bitsFrom, bytesAt}
+use Rattle.bits.specs.Bit.{bitAt, toN, numberFrom, count, octetOf, twenty, bitsFrom}
 use Rattle.bits.proofs.CountLaws.{length-map-count, getD-map-count, map-count-same}
 
 -- a bit is 0 or 1
@@ -239,62 +239,3 @@ cut-lt x d h hx =
     let e : 8 - d + d ≡ 8 = omega arith in
     let p : 2 ^ (8 - d + d) ≡ 256 = ap (λ (m : ℕ). 2 ^ m) e in
     shl-exact (8 - d) d 8 (shr-lt (8 - d) d (rw p hx)) (omega arith)
-
--- eight bytes are two times four
-pub eight-bytes : (s : List ℕ) (i h l : ℕ) → h ≡ ((getD s i 0 * 256 + getD s (i + 1) 0) * 256 + getD s (i + 2) 0) * 256 + getD s (i + 3) 0
-    → l ≡ ((getD s (i + 4) 0 * 256 + getD s (i + 5) 0) * 256 + getD s (i + 6) 0) * 256 + getD s (i + 7) 0 → h * 4294967296 + l ≡ bytesAt s i 8
-unfolding bytesAt
-eight-bytes s i h l high low = let z : i + 0 ≡ i = omega arith in rw z (omega arith)
-
--- above e further bytes stand the k bytes before them
-bytes-high : (s : List ℕ) (i k e : ℕ) → ((j : ℕ) → getD s j 0 < 256) → bytesAt s i (k + e) / 2 ^ (8 * e) ≡ bytesAt s i k
-unfolding bytesAt
-bytes-high s i k zero fits = let a : k + 0 ≡ k = omega arith in rw a (omega arith)
-bytes-high s i k (suc e) fits =
-    let a : k + suc e ≡ suc (k + e) = omega arith in
-    let b : 8 * suc e ≡ 8 + 8 * e = omega arith in
-    rw (a, b) (sym (shr-shr (bytesAt s i (suc (k + e))) 8 (8 * e))
-    ∙ ap (λ (n : ℕ). n / 2 ^ (8 * e)) (high (bytesAt s i (k + e)) 8 (fits (i + (k + e)))) ∙ bytes-high s i k e fits)
-
--- the last two of them
-bytes-two : (s : List ℕ) (i k : ℕ) → bytesAt s i (k + 2) ≡ bytesAt s i k * 65536 + (getD s (i + k) 0 * 256 + getD s (i + k + 1) 0)
-unfolding bytesAt
-bytes-two s i k =
-    let a : k + 2 ≡ suc (suc k) = omega arith in
-    let b : i + suc k ≡ i + k + 1 = omega arith in
-    rw (a, b) (omega arith)
-
--- eight bits that begin in the last but one byte show nothing of those above
-two-low : (h y d : ℕ) → y < 65536 → d ≤ 8 → (h * 65536 + y) / 2 ^ d % 256 ≡ y / 2 ^ d % 256
-two-low h y d hy hd =
-    let x = h * 65536 + y in
-    let e : 8 - d + (8 + d) ≡ 16 = omega arith in
-    let m : x % 2 ^ (8 + d) ≡ y % 2 ^ (8 + d) = sym (rw e at (mod-mod-pow x (8 - d) (8 + d))) ∙ ap (λ (n : ℕ). n % 2 ^ (8 + d)) (low h 16 hy) in
-    sym (field x 8 d) ∙ ap (λ (n : ℕ). n / 2 ^ d) m ∙ field y 8 d
-
--- four octets stand in eight bytes shifted once: octet m has 24 - 8 m bits below it
-word-shifted : (s : List ℕ) (q m : ℕ) → ((j : ℕ) → getD s j 0 < 256) → m < 4 → bytesAt s (q / 8) 8 / 2 ^ (32 - q % 8) / 2 ^ (24 - 8 * m) % 256 ≡ shifted s (q + 8 * m)
-word-shifted s q m fits h =
-    let x = bytesAt s (q / 8) 8 in
-    let y = getD s (q / 8 + m) 0 * 256 + getD s (q / 8 + m + 1) 0 in
-    let r = 8 - q % 8 in
-    let a : 32 - q % 8 + (24 - 8 * m) ≡ 8 * (6 - m) + (8 - q % 8) = omega arith in
-    let b : m + 2 + (6 - m) ≡ 8 = omega arith in
-    let i : (q + 8 * m) / 8 ≡ q / 8 + m = omega arith in
-    let j : (q + 8 * m) % 8 ≡ q % 8 = omega arith in
-    let top : x / 2 ^ (8 * (6 - m)) ≡ bytesAt s (q / 8) m * 65536 + y = rw b at (bytes-high s (q / 8) (m + 2) (6 - m) fits) ∙ bytes-two s (q / 8) m in
-    let one : x / 2 ^ (32 - q % 8) / 2 ^ (24 - 8 * m) ≡ (bytesAt s (q / 8) m * 65536 + y) / 2 ^ r =
-    shr-shr x (32 - q % 8) (24 - 8 * m) ∙ ap (λ (n : ℕ). x / 2 ^ n) a ∙ sym (shr-shr x (8 * (6 - m)) (8 - q % 8)) ∙ ap (λ (n : ℕ). n / 2 ^ r) top in
-    let small : y < 65536 = omega (arith, fits (q / 8 + m), fits (q / 8 + m + 1)) in
-    rw (i, j) (ap (λ (n : ℕ). n % 256) one ∙ two-low (bytesAt s (q / 8) m) y r small (omega arith))
-
--- so they are octets k to k + 3 where the bytes begin at byte k of those from bit p on
-pub octet-word : (s : List ℕ) (n p k m x : ℕ) → ((j : ℕ) → getD s j 0 < 256) → m < 4 → p + 8 * (k + m) + 8 ≤ n
-    → x ≡ bytesAt s (p / 8 + k) 8 / 2 ^ (32 - p % 8) / 2 ^ (24 - 8 * m) % 256 → x ≡ octetOf (bitsFrom (bitAt s) n p) (k + m)
-octet-word s n p k m x fits hm h e =
-    let q = p + 8 * k in
-    let i : (p + 8 * k) / 8 ≡ p / 8 + k = omega arith in
-    let r : (p + 8 * k) % 8 ≡ p % 8 = omega arith in
-    let l : p + 8 * k + 8 * m ≡ p + 8 * (k + m) = omega arith in
-    let here : x ≡ shifted s (p + 8 * (k + m)) = e ∙ rw (i, r, l) at (word-shifted s (p + 8 * k) m fits hm) in
-    octet-whole s n (p + 8 * (k + m)) x (fits ((p + 8 * (k + m)) / 8 + 1)) here h ∙ octet-later (bitAt s) n p (k + m)

@@ -2,7 +2,7 @@
 -- Assumes nothing.
 use mathlib.Core.Path.{_≡_, refl, ap, sym, _∙_}
 use mathlib.Core.List.{List, [], _∷_, _++_, map}
-use Prim.Native.Nat.{ℕ, zero, suc, _+_, _<_, _≤_, zero-le, suc-le-suc}
+use Prim.Native.Nat.{ℕ, zero, suc, _+_, _<_, zero-le, suc-le-suc}
 use native.Mathlib.Nat.{not-suc-le-zero, le-of-suc-le-suc, add-zero}
 use native.Mathlib.Numerals.{add-one}
 use native.Mathlib.Omega.{arith}
@@ -51,15 +51,3 @@ pub fill-step : (f : ℕ → ℕ) (n : ℕ) (d xs : List ℕ) (x : ℕ) → xs �
 fill-step f n d xs x so-far here h =
     let z : 0 + n ≡ n = omega arith in
     rw (so-far, here, add-one) (rw z at (fill-suc f n 0 d h))
-
--- and one that stores four at a time
-pub fill-four : (f : ℕ → ℕ) (n : ℕ) (d xs : List ℕ) (x y z w : ℕ) → xs ≡ map f (count n 0) ++ drop n d → x ≡ f n → y ≡ f (n + 1) → z ≡ f (n + 2) → w ≡ f (n + 3) → n + 4 ≤ length d
-    → set (set (set (set xs n x) (n + 1) y) (n + 2) z) (n + 3) w ≡ map f (count (n + 4) 0) ++ drop (n + 4) d
-fill-four f n d xs x y z w so-far hx hy hz hw h =
-    let one = fill-step f n d xs x so-far hx (omega arith) in
-    let e2 : n + 1 + 1 ≡ n + 2 = omega arith in
-    let two = rw e2 at (fill-step f (n + 1) d (set xs n x) y one hy (omega arith)) in
-    let e3 : n + 2 + 1 ≡ n + 3 = omega arith in
-    let three = rw e3 at (fill-step f (n + 2) d (set (set xs n x) (n + 1) y) z two hz (omega arith)) in
-    let e4 : n + 3 + 1 ≡ n + 4 = omega arith in
-    rw e4 at (fill-step f (n + 3) d (set (set (set xs n x) (n + 1) y) (n + 2) z) w three hw (omega arith))

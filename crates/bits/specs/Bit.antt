@@ -40,8 +40,3 @@ twenty g = map (octetOf g) (count 20 0)
 -- the bits from p on, with zeros in the place of those from n on, which are never looked at
 abbrev pub bitsFrom : (ℕ → Bool) → ℕ → ℕ → ℕ → Bool
 bitsFrom f n p i = ltb (p + i) n && f (p + i)
-
--- k bytes from byte i on as one number, the first on top
-unfoldable pub bytesAt : List ℕ → ℕ → ℕ → ℕ
-bytesAt s i zero = 0
-bytesAt s i (suc k) = bytesAt s i k * 256 + getD s (i + k) 0

@@ -2,7 +2,7 @@
 ghost use mathlib.Core.Path.{_≡_};
 ghost use Prim.Native.Nat.{_+_, _*_, _-_, _/_, _%_, _^_, _<_, _≤_};
 ghost use lib.ListN.{length, getD};
-ghost use Rattle.bits.specs.Bit.{bitAt, octetOf, twenty, bitsFrom, bytesAt};
+ghost use Rattle.bits.specs.Bit.{bitAt, octetOf, twenty, bitsFrom};
 
 // Bit p of s, the top bit of the first byte being bit 0.
 pub fn bit(s: &[u8], p: usize) -> bool
@@ -52,51 +52,8 @@ fn octet(s: &[u8], n: usize, q: usize) -> u8
     top(x, n - q)
 }
 
-// Four bytes as one number, the first on top.
-fn four(a: u8, b: u8, c: u8, d: u8) -> u32
-    ensures { λ r. ⌜ r ≡ ((a * 256 + b) * 256 + c) * 256 + d ⌝ }
-{
-    ((a as u32 * 256 + b as u32) * 256 + c as u32) * 256 + d as u32
-}
-
-// Eight bytes of s as one number, the first on top.
-fn eight(s: &[u8], i: usize) -> u64
-    requires { ⌜ (i + 8 ≤ length (now s)) × (length (now s) ≤ 65536) ⌝ }
-    ensures { λ r. ⌜ r ≡ bytesAt (now (s .entry)) i 8 ⌝ }
-{
-    let high = four(s[i], s[i + 1], s[i + 2], s[i + 3]);
-    let low = four(s[i + 4], s[i + 5], s[i + 6], s[i + 7]);
-    high as u64 * 4294967296 + low as u64
-}
-
-// The byte of w that has d bits below it.
-fn byte_of(w: u64, d: usize) -> u8
-    requires { ⌜ d < 64 ⌝ }
-    ensures { λ r. ⌜ r ≡ w / 2 ^ d % 256 ⌝ }
-{
-    ((w >> d) % 256) as u8
-}
-
-// The twenty octets from bit p where 192 bits are left: four are shifted at once out of eight bytes, which are all there, so that nothing is tested.
-fn inner_octets(s: &[u8], n: usize, p: usize) -> [u8; 20]
-    requires { ⌜ (p + 192 ≤ n) × (n ≤ 8 * length (now s)) × (length (now s) ≤ 65536) ⌝ }
-    ensures { λ r. ⌜ r ≡ twenty (bitsFrom (bitAt (now (s .entry))) n p) ⌝ }
-{
-    let i = p / 8;
-    let d = 32 - p % 8;
-    let mut a = [0u8; 20];
-    for k in 0..5 {
-        let w = eight(s, i + 4 * k) >> d;
-        a[4 * k] = byte_of(w, 24);
-        a[4 * k + 1] = byte_of(w, 16);
-        a[4 * k + 2] = byte_of(w, 8);
-        a[4 * k + 3] = byte_of(w, 0);
-    }
-    a
-}
-
-// The twenty octets from bit p wherever n falls: each is taken alone.
-fn edge_octets(s: &[u8], n: usize, p: usize) -> [u8; 20]
+// The twenty octets from bit p, with zeros for the bits from n on, which are never looked at.
+pub fn octets(s: &[u8], n: usize, p: usize) -> [u8; 20]
     requires { ⌜ (p ≤ n) × (n ≤ 8 * length (now s)) × (length (now s) ≤ 65536) ⌝ }
     ensures { λ r. ⌜ r ≡ twenty (bitsFrom (bitAt (now (s .entry))) n p) ⌝ }
 {
@@ -105,16 +62,4 @@ fn edge_octets(s: &[u8], n: usize, p: usize) -> [u8; 20]
         a[k] = octet(s, n, p + 8 * k);
     }
     a
-}
-
-// The twenty octets from bit p, with zeros for the bits from n on, which are never looked at.
-pub fn octets(s: &[u8], n: usize, p: usize) -> [u8; 20]
-    requires { ⌜ (p ≤ n) × (n ≤ 8 * length (now s)) × (length (now s) ≤ 65536) ⌝ }
-    ensures { λ r. ⌜ r ≡ twenty (bitsFrom (bitAt (now (s .entry))) n p) ⌝ }
-{
-    if p + 192 <= n {
-        inner_octets(s, n, p)
-    } else {
-        edge_octets(s, n, p)
-    }
 }

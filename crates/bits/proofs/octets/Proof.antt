@@ -1,4 +1,4 @@
--- `bits::edge_octets` meets its contract. The loop's invariant: the first k octets are filled, the others are still zero.
+-- `bits::octets` meets its contract. The loop's invariant: the first k octets are filled, the others are still zero.
 -- Assumes nothing.
 use Prim.Native.Nat.{_+_, _*_, _-_, _≤_}
 use mathlib.Core.Path.{_≡_, _∙_}
@@ -9,8 +9,8 @@ use lib.ListN.{drop, replicate}
 use Rattle.bits.specs.Bit.{bitAt, count, octetOf, twenty, bitsFrom}
 use Rattle.bits.proofs.BitLaws.{octet-later}
 use Rattle.bits.proofs.CountLaws.{fill-step}
-use Rattle.bits.proofs.edge_octets.Statement.{statement}
-use Rattle.bits.proofs.edge_octets.Tie as tie
+use Rattle.bits.proofs.octets.Statement.{statement}
+use Rattle.bits.proofs.octets.Tie as tie
 
 abbrev Inv-loop : tie.InvT-loop
 Inv-loop s n p a₀ k₀ a k =
@@ -52,8 +52,8 @@ returns : tie.Need-returns Inv-loop μ-loop
 unfolding twenty
 returns c = let e : c .before .loop .k ≡ 20 = omega arith in rw e at (c .before .loop .inv .1)
 
-pub edge-octets-spec : {M : Type 1} → statement M
-edge-octets-spec =
+pub octets-spec : {M : Type 1} → statement M
+octets-spec =
     tie.close
     (tie.spec
     Inv-loop
