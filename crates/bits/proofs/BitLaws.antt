@@ -202,6 +202,16 @@ pub octet-whole : (s : List ℕ) (n q x : ℕ) → getD s (q / 8 + 1) 0 < 256 �
 octet-whole s n q x hb e h =
     octet-first (bitsFrom (bitAt s) n q) x (omega arith) (λ j l. rw e (shifted-seen s n q j l hb (omega arith)))
 
+-- so octet k of those from p on is two bytes shifted as far as the first two are
+pub octet-inside : (s : List ℕ) (n p k x : ℕ) → getD s (p / 8 + k + 1) 0 < 256 → x ≡ (getD s (p / 8 + k) 0 * 256 + getD s (p / 8 + k + 1) 0) / 2 ^ (8 - p % 8) % 256
+    → p + 8 * k + 8 ≤ n → x ≡ octetOf (bitsFrom (bitAt s) n p) k
+octet-inside s n p k x hb e h =
+    let i : (p + 8 * k) / 8 ≡ p / 8 + k = omega arith in
+    let r : (p + 8 * k) % 8 ≡ p % 8 = omega arith in
+    let fits : getD s ((p + 8 * k) / 8 + 1) 0 < 256 = rw i hb in
+    let here : x ≡ shifted s (p + 8 * k) = rw (i, r) e in
+    octet-whole s n (p + 8 * k) x fits here h ∙ octet-later (bitAt s) n p k
+
 -- twice a number is even
 even : (z : ℕ) → z * 2 % 2 ≡ 0
 even z = omega arith

@@ -52,12 +52,21 @@ fn octet(s: &[u8], n: usize, q: usize) -> u8
     top(x, n - q)
 }
 
-// The twenty octets from bit p, with zeros for the bits from n on, which are never looked at.
+// The twenty octets from bit p, with zeros for the bits from n on, which are never looked at. Where 168 bits are left all the bytes are there, and whole:
+// nothing is tested.
 pub fn octets(s: &[u8], n: usize, p: usize) -> [u8; 20]
     requires { ⌜ (p ≤ n) × (n ≤ 8 * length (now s)) × (length (now s) ≤ 65536) ⌝ }
     ensures { λ r. ⌜ r ≡ twenty (bitsFrom (bitAt (now (s .entry))) n p) ⌝ }
 {
     let mut a = [0u8; 20];
+    if p + 168 <= n {
+        let i = p / 8;
+        let r = p % 8;
+        for k in 0..20 {
+            a[k] = join(s[i + k], s[i + k + 1], r);
+        }
+        return a;
+    }
     for k in 0..20 {
         a[k] = octet(s, n, p + 8 * k);
     }
