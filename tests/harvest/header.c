@@ -17,8 +17,13 @@ static void hold(int so, int line, const char *what) {
 }
 #define HOLD(what) hold(what, __LINE__, #what)
 
+/* The answer has these numbers. It is looked at through pointers, with which a narrower field does not compile. */
 static int is(bellrope_answer a, uint64_t number, uint64_t index, uint64_t items, uint64_t bytes, uint64_t position, uint64_t context) {
-	return a.number == number && a.index == index && a.items == items && a.bytes == bytes && a.position == position && a.context == context;
+	const uint64_t *got[6] = {&a.number, &a.index, &a.items, &a.bytes, &a.position, &a.context};
+	const uint64_t due[6] = {number, index, items, bytes, position, context};
+	for (int i = 0; i < 6; i++)
+		if (*got[i] != due[i]) return 0;
+	return 1;
 }
 
 /* Eight ones, and then a frame of HR speech. */
