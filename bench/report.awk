@@ -10,7 +10,7 @@ BEGIN {
 	limit["noise"] = 30
 	limit["zeros"] = 60
 	limit["ones"] = 60
-	limit["write"] = 60
+	limit["write"] = 90
 	stack_limit = 16384
 	growth_limit = 5
 
