@@ -60,10 +60,17 @@ static void put_speech(unsigned tail) {
 	end_frame(BELLROPE_SPEECH, 0, tail);
 }
 
-/* A good AMR frame: kind 6 in one of its three modes, or kind 5, 7 or 8, each as likely. No run starts with kind 8. */
-static void amr(void) {
+/* A speech frame, good but for one bit, which is turned over. */
+static void put_broken(unsigned place) {
+	unsigned start = at;
+	put_speech(2);
+	put(start + place, !bit(bits, start + place));
+}
+
+/* A good AMR frame: kind 6 in one of its three modes (drawn 0 to 2), or kind 5, 7 or 8. */
+static void put_amr(unsigned drawn) {
 	static const unsigned kinds[] = {BELLROPE_LOWER, BELLROPE_LOWER, BELLROPE_LOWER, BELLROPE_NO_SPEECH, BELLROPE_AMR_670, BELLROPE_AMR_740};
-	unsigned drawn = below(at ? 6 : 5), kind = kinds[drawn], mode = 0;
+	unsigned kind = kinds[drawn], mode = 0;
 	const layout *l = &layouts[kind];
 	put_body(l);
 	if (kind == BELLROPE_LOWER) {
@@ -74,6 +81,8 @@ static void amr(void) {
 }
 
 static void hr(void) { put_speech(2); }
+static void amr(void) { put_amr(below(at ? 6 : 5)); } /* no run starts with kind 8 */
+static void lower(void) { put_amr(below(3)); }
 
 /* One frame in eight has lost its T bits or one of them, or has up to six ones more. */
 static void slips(void) {
@@ -84,6 +93,29 @@ static void slips(void) {
 static void noise(void) { put(at++, next() >> 63); }
 static void zeros(void) { put(at++, 0); }
 static void ones(void) { put(at++, 1); }
+
+/* Eight zeros and a one, with which every frame that starts a run begins, as close as they can stand: each ninth place has to be looked at. */
+static void prefixes(void) {
+	for (unsigned p = 0; p < 9; p++) put(at++, p == 8);
+}
+
+/* Eight zeros, eight ones, eight zeros, nine ones. Where eight zeros begin, at two places in 33, all 17 bits hold that are fixed alike in the patterns of
+ * HR, Low and 6,70: only what they do not share tells that no frame stands there. */
+static void dense(void) {
+	for (unsigned p = 0; p < 33; p++) put(at++, p / 8 % 2 || p == 32);
+}
+
+/* The last fixed bit alone is wrong, so that all before it hold. */
+static void near(void) {
+	const places *given = &layouts[BELLROPE_SPEECH].given;
+	put_broken(given->at[given->count - 1]);
+}
+
+/* The CRC alone is wrong, so that each frame is judged to its end, and none starts a run. */
+static void wrong(void) { put_broken(layouts[BELLROPE_SPEECH].crc.at[0]); }
+
+/* A frame and ones behind it, 4,096 bytes together. */
+static void longtails(void) { put_speech(8 * 4096 - layouts[BELLROPE_SPEECH].body); }
 
 /* Fills a capture piece by piece, turns one bit in `errors` over (none where that is 0), and writes it. */
 static void make(const char *directory, const char *name, void (*piece)(void), unsigned errors) {
@@ -110,9 +142,15 @@ int main(int argc, char **argv) {
 	make(argv[1], "hr", hr, 0);
 	make(argv[1], "slips", slips, 0);
 	make(argv[1], "amr", amr, 0);
+	make(argv[1], "lower", lower, 0);
 	make(argv[1], "errors", hr, 1000);
 	make(argv[1], "noise", noise, 0);
 	make(argv[1], "zeros", zeros, 0);
 	make(argv[1], "ones", ones, 0);
+	make(argv[1], "prefixes", prefixes, 0);
+	make(argv[1], "dense", dense, 0);
+	make(argv[1], "near", near, 0);
+	make(argv[1], "wrong", wrong, 0);
+	make(argv[1], "longtails", longtails, 0);
 	return 0;
 }

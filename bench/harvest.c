@@ -1,11 +1,12 @@
-/* The program whose instructions are counted: it harvests a capture by pages of 4,096 bytes, or writes one back. It also compares two readers, and looks
- * how deep the stack went.
+/* The program whose instructions are counted: it harvests a capture by pages of 4,096 bytes or of one record, or writes one back. It also compares two
+ * readers, and looks how deep the stack went.
  *
- *   harvest page library|plain FILE BYTES TIMES   harvests the first BYTES of the capture TIMES times
- *   harvest write FILE BYTES TIMES                harvests them once, and writes the records back TIMES times, page by page
- *   harvest same FILE..                           compares the plain reader's pages with the library's; prints frames and gaps of each file
- *   harvest stack FILE..                          prints the most bytes of stack that paging took, and writing
- *   harvest compiler                              prints what compiled this
+ *   harvest page library|plain FILE BYTES TIMES     harvests the first BYTES of the capture TIMES times
+ *   harvest record library|plain FILE BYTES TIMES   the same, asking for one item a page
+ *   harvest write FILE BYTES TIMES                  harvests them once, and writes the records back TIMES times, page by page
+ *   harvest same FILE..                             compares the plain reader's pages with the library's; prints frames and gaps of each file
+ *   harvest stack FILE..                            prints the most bytes of stack that paging took, and writing
+ *   harvest compiler                                prints what compiled this
  *
  * A FILE is one byte of direction and then the capture. What a run with TIMES 2 counts more than one with TIMES 1 is the cost of one time: all that the
  * program does besides is the same in both. */
@@ -49,9 +50,9 @@ static bellrope_answer page(paging *call, bellrope_answer last, uint64_t most, u
 	return a;
 }
 
-static void harvest(paging *call) {
+static void harvest(paging *call, uint64_t most) {
 	static uint8_t buffer[PAGE];
-	for (bellrope_answer a = {0}; a.position < 8 * bytes;) a = page(call, a, UINT64_MAX, buffer);
+	for (bellrope_answer a = {0}; a.position < 8 * bytes;) a = page(call, a, most, buffer);
 }
 
 /* Writes records from the cursor of the answer before them. */
@@ -113,7 +114,7 @@ static size_t depth(unsigned which) {
 
 static bellrope_answer before, answer;
 static uint8_t record[PAGE];
-static void all_pages(void) { harvest(bellrope_page); }
+static void all_pages(void) { harvest(bellrope_page, UINT64_MAX); }
 static void one_item(void) { answer = page(bellrope_page, before, 1, record); }
 static void one_record(void) { write_records(before, record, answer.bytes); }
 
@@ -129,9 +130,11 @@ static void use_stacks(void) {
 int main(int argc, char **argv) {
 	const char *what = argc > 1 ? argv[1] : "";
 	prepare_frames();
-	if (!strcmp(what, "page") && argc == 6) {
+	if ((!strcmp(what, "page") || !strcmp(what, "record")) && argc == 6) {
+		paging *call = strcmp(argv[2], "plain") ? bellrope_page : plain_page;
+		uint64_t most = strcmp(what, "record") ? UINT64_MAX : 1;
 		load(argv[3], strtoul(argv[4], NULL, 10));
-		for (int times = atoi(argv[5]); times > 0; times--) harvest(strcmp(argv[2], "plain") ? bellrope_page : plain_page);
+		for (int times = atoi(argv[5]); times > 0; times--) harvest(call, most);
 		return 0;
 	}
 	if (!strcmp(what, "write") && argc == 5) {
@@ -159,6 +162,6 @@ int main(int argc, char **argv) {
 		printf("compiler gcc-%s\n", __VERSION__);
 		return 0;
 	}
-	fprintf(stderr, "usage: harvest page library|plain FILE BYTES TIMES | write FILE BYTES TIMES | same FILE.. | stack FILE.. | compiler\n");
+	fprintf(stderr, "usage: harvest page|record library|plain FILE BYTES TIMES | write FILE BYTES TIMES | same FILE.. | stack FILE.. | compiler\n");
 	return 2;
 }
