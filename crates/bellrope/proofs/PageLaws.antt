@@ -1,16 +1,15 @@
 -- Leading parts of a reading, the page that is the longest of them, and that no second answer fits a request.
 -- Assumes nothing.
 use mathlib.Core.Path.{_≡_, refl, sym, _∙_, ap, ap₂}
-use mathlib.Core.Logic.{_⊎_, inl, inr}
-use mathlib.Core.Bool.{Bool, true, false, cond}
+use mathlib.Core.Bool.{cond}
 use mathlib.Core.List.{List, [], _∷_, _++_, append-assoc, append-nil}
-use Prim.Native.Nat.{ℕ, zero, suc, _+_, _-_, _≤_, _<_}
+use Prim.Native.Nat.{ℕ, zero, suc, _+_, _≤_, _<_}
 use native.Mathlib.Omega.{arith}
 use native.Mathlib.Decide.{decLt}
 use mathlib.Core.Logic.{by-cases}
 use lib.ListN.{length, drop, length-append}
-use Rattle.reading.specs.Reading.{Cursor, Item, Obeys, over, overAll, Stretch, Reading, Leading}
-use Rattle.reading.proofs.ReadingLaws.{split, join, stretch-split, stretch-within}
+use Rattle.reading.specs.Reading.{Cursor, Item, Obeys, overAll, Stretch, Leading}
+use Rattle.reading.proofs.ReadingLaws.{join, stretch-split, stretch-within}
 use Rattle.reading.proofs.ItemLaws.{one, later, within}
 use Rattle.channel.specs.Frames.{Capture, captureOf, Frame, rules}
 use Rattle.channel.proofs.FrameLaws.{sound}

@@ -45,7 +45,8 @@ fn refusal(bytes: usize, n: u64, direction: u64, position: u64, context: u64, mo
     0
 }
 
-// Fills the buffer with records from the cursor on, each lent the part that begins where the last ended.
+// Fills the buffer with records from the cursor on, each lent the part that begins where the last ended. What the records need besides is made here, for the
+// whole page: the table of D places, and as each first frame comes the plan of its kind and the masks of its CRCs.
 fn fill(s: &[u8], n: usize, d: Direction, c: Cursor, most: u64, buffer: &mut [u8]) -> Filled
     requires { ⌜ (c .position ≤ n) × (n ≤ 8 * length (now s)) × (length (now s) ≤ 65536) ⌝ }
     ensures { λ r. ⌜ FilledIn (captureOf (now (s .entry)) n d) (cursorOf c) most (now (buffer .entry)) (now (buffer .exit)) (r .items) (r .bytes) (cursorOf (r .cursor)) ⌝ }
@@ -53,6 +54,9 @@ fn fill(s: &[u8], n: usize, d: Direction, c: Cursor, most: u64, buffer: &mut [u8
     let mut items: u64 = 0;
     let mut at: usize = 0;
     let mut cursor = c;
+    let table = dbits::table();
+    let mut plan = dbits::no_plans();
+    let mut masks = frame::no_masks();
     while items < most {
         let p = cursor.position;
         if n <= p {
@@ -62,7 +66,7 @@ fn fill(s: &[u8], n: usize, d: Direction, c: Cursor, most: u64, buffer: &mut [u8
                 cursor: cursor,
             };
         }
-        let i = reader::item_at(s, n, d, cursor);
+        let i = reader::item_at(s, n, d, cursor, &mut masks);
         let found = i.found;
         let size = record::size(found);
         if buffer.len() - at < size {
@@ -72,7 +76,8 @@ fn fill(s: &[u8], n: usize, d: Direction, c: Cursor, most: u64, buffer: &mut [u8
                 cursor: cursor,
             };
         }
-        record::put(&mut buffer[at..], i);
+        record::ready(&mut plan, &table, found);
+        record::put(&mut buffer[at..], i, &table, &plan);
         cursor = cursor.over(i);
         at += size;
         items += 1;

@@ -2,6 +2,8 @@
 ghost use mathlib.Core.Path.{_≡_};
 ghost use Prim.Native.Nat.{_*_, _≤_};
 ghost use lib.ListN.{length};
+ghost use Rattle.dbits.specs.Plan.{Plans};
+ghost use Rattle.frame.specs.Kept.{Kept};
 ghost use Rattle.item.specs.Item.{itemOf, cursorOf};
 ghost use Rattle.bellrope.specs.Writing.{writeRefusalOf, WriteCall};
 ghost use Rattle.bellrope.specs.Judged.{JudgedAs, EndsBy, framePut, AllTaken, PutAs};
@@ -44,16 +46,24 @@ fn refusal(bytes: usize, direction: u64, position: u64, context: u64, room: usiz
 }
 
 // Judges the records one by one, up to the first that fails.
-fn judge_all(records: &[u8], d: Direction, c: Cursor, bits: usize) -> Judged
-    requires { ⌜ length (now records) ≤ 65536 ⌝ }
-    ensures { λ r. ⌜ JudgedAs d bits (cursorOf c) (now (records .entry)) (r .number) (r .items) (cursorOf (r .cursor)) ⌝ }
+fn judge_all(
+    records: &[u8],
+    d: Direction,
+    c: Cursor,
+    bits: usize,
+    masks: &mut [u64],
+    table: &[u8],
+    plan: &mut [u32],
+) -> Judged
+    requires { ⌜ (length (now records) ≤ 65536) × Kept (now masks) × Plans (now table) (now plan) ⌝ }
+    ensures { λ r. ⌜ JudgedAs d bits (cursorOf c) (now (records .entry)) (r .number) (r .items) (cursorOf (r .cursor)) × Plans (now (table .entry)) (now (plan .exit)) ⌝ }
 {
     let mut items: u64 = 0;
     let mut at: usize = 0;
     let mut cursor = c;
     while at < records.len() {
-        let i = judge::frame_of(&records[at..], d);
-        let number = judge::number(i, cursor, bits);
+        let i = judge::frame_of(&records[at..], d, table, plan);
+        let number = judge::number(i, cursor, bits, masks);
         if number != 0 {
             return Judged {
                 number: number,
@@ -93,13 +103,13 @@ fn put_frame(buffer: &mut [u8], i: Item)
 }
 
 // Puts the bits of every frame whose record is among those judged.
-fn put_all(records: &[u8], buffer: &mut [u8])
-    requires { ⌜ AllTaken (8 * length (now buffer)) (now records) × (length (now records) ≤ 65536) × (length (now buffer) ≤ 65536) ⌝ }
+fn put_all(records: &[u8], table: &[u8], plan: &mut [u32], buffer: &mut [u8])
+    requires { ⌜ Plans (now table) (now plan) × AllTaken (8 * length (now buffer)) (now records) × (length (now records) ≤ 65536) × (length (now buffer) ≤ 65536) ⌝ }
     ensures { λ _. ⌜ PutAs (now (records .entry)) (now (buffer .entry)) (now (buffer .exit)) ⌝ }
 {
     let mut at: usize = 0;
     while at < records.len() {
-        let i = judge::held(&records[at..]);
+        let i = judge::held(&records[at..], table, plan);
         let found = i.found;
         put_frame(buffer, i);
         at += record::size(found);
@@ -125,14 +135,25 @@ pub extern "C" fn bellrope_write(
         position: position as usize,
         context: context as u8,
     };
-    let judged = judge_all(records, direction_of(direction), c, 8 * buffer.len());
+    let mut masks = frame::no_masks();
+    let table = dbits::table();
+    let mut plan = dbits::no_plans();
+    let judged = judge_all(
+        records,
+        direction_of(direction),
+        c,
+        8 * buffer.len(),
+        &mut masks,
+        &table,
+        &mut plan,
+    );
     let decided = judged.number;
     let items = judged.items;
     let cursor = judged.cursor;
     if decided != 0 {
         return refuse(decided, items, position, context);
     }
-    put_all(records, buffer);
+    put_all(records, &table, &mut plan, buffer);
     Answer {
         number: 0,
         index: 0,

@@ -11,7 +11,7 @@ use borrow.Author.Tests.{eq-eqb}
 use lib.Dec.{eqb, lit<}
 use lib.ListN.{length-take, length, getD, take, drop, replicate, length-map, length-append, length-drop, drop-of-length-le, List·getD-eq-default}
 use lib.Pow.{shr-shr}
-use lib.Seq.{getD-take, getD-drop, take-all, length-take-le}
+use lib.Seq.{getD-take, getD-drop, length-take-le}
 use Rattle.bits.specs.Bit.{bitAt, toN, numberFrom, number, count}
 use Rattle.bits.proofs.BitLaws.{toN-lt, toN-one}
 use Rattle.bits.proofs.CountLaws.{getD-map-count}
@@ -75,6 +75,11 @@ part-end NoSpeech = lit< tt
 part-end Lower = lit< tt
 part-end Amr670 = lit< tt
 part-end Amr740 = lit< tt
+
+-- the table has 1,022 places
+pub all-length : length allPlaces ≡ 1022
+unfolding allPlaces dPlaces
+all-length = refl
 
 -- a number is equal to itself, as a test
 eqb-self : (n : ℕ) → eqb n n ≡ true
@@ -199,10 +204,6 @@ pub dBytes-past : (g : Word) (k : Kind) (i : ℕ) → dCount k ≤ i → i < 152
 dBytes-past g k i past h =
     let l : length (bitsAt g (dPlaces k)) ≤ i = rw (length-map (dPlaces k) g, d-length k) past in
     bytes-bit g k i h ∙ List·getD-eq-default (bitsAt g (dPlaces k)) false {n = i} l
-
--- what is left of a part, less than eight places
-pub rest-of : (g : Word) (ps : List ℕ) (j n : ℕ) → length (drop (8 * j) ps) ≤ n → fromTop (bitsAt g (take n (drop (8 * j) ps))) ≡ fromTop (drop (8 * j) (bitsAt g ps))
-rest-of g ps j n h = ap (λ (l : List ℕ). fromTop (bitsAt g l)) (take-all n (drop (8 * j) ps) h) ∙ ap fromTop (bits-drop g (8 * j) ps)
 
 -- a list that is filled from the front, and whose other elements are zero, is filled whole with zeros there
 zeros-rest : (f : ℕ → ℕ) (m a : ℕ) → ((k : ℕ) → k < m → f (a + k) ≡ 0) → replicate m 0 ≡ map f (count m a)

@@ -2,3 +2,5 @@
 -- Assumes nothing.
 pub mod DBitLaws
 pub mod RunLaws
+pub mod PlanLaws
+pub mod BackLaws

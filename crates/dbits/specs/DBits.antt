@@ -1,9 +1,7 @@
 -- The table of D bits and the D bits as bytes (document 01, "Frames": "One constant table holds the place of each of the 1,022 D bits of the
 -- eight kinds"; "Records and calls": "D bits from the top bit down, zero padded"). Assumes nothing.
-use mathlib.Core.Bool.{Bool, _&&_}
 use mathlib.Core.List.{List, map}
-use Prim.Native.Nat.{ℕ, suc, _+_, _*_, _-_, _%_, _<_}
-use lib.Dec.{eqb, leb}
+use Prim.Native.Nat.{ℕ, suc, _+_, _*_, _<_}
 use lib.ListN.{length, getD, drop}
 use Rattle.reading.specs.Reading.{joined}
 use Rattle.bits.specs.Bit.{count}
@@ -36,10 +34,3 @@ dBytes g k = map (λ j. fromTop (drop (8 * j) (bitsAt g (dPlaces k)))) (count 19
 -- each entry of a list is below the next
 abbrev pub Rising : List ℕ → Type 0
 Rising ps = (j : ℕ) → suc j < length ps → getD ps j 0 < getD ps (suc j) 0
-
--- eight places are s neighbours and then 8 - s neighbours, these in one octet, by the first and the last of each: between them the places rise
-abbrev pub twoRuns : List ℕ → ℕ → Bool
-twoRuns ps s =
-    eqb (getD ps (s - 1) 0) (getD ps 0 0 + s - 1)
-    && eqb (getD ps 7 0) (getD ps s 0 + 7 - s)
-    && leb (getD ps s 0 % 8) s

@@ -1,1 +1,3 @@
 pub mod DBits
+pub mod Plan
+pub mod Back

@@ -1,7 +1,11 @@
 // What the bit at each place of a frame is called.
 ghost use mathlib.Core.Path.{_≡_};
-ghost use Prim.Native.Nat.{_<_};
+ghost use mathlib.Core.List.{List};
+ghost use Prim.Native.Nat.{ℕ, _<_};
+ghost use lib.ListN.{length};
+ghost use Rattle.bits.specs.Bit.{bitAt};
 ghost use Rattle.channel.specs.Places.{dPlaces};
+ghost use Rattle.word.specs.Words.{FixedBy};
 ghost use Rattle.drawings.specs.Cells.{indexOf, named, syncCell, xcCell, crcCell, besideCell, dName, tailCell, cellOf};
 use channel::Kind;
 use frame::places;
@@ -36,15 +40,25 @@ fn index_in(list: &[u8], p: u8) -> usize
     list.len()
 }
 
-// A fixed bit or a C bit by the lists of a pattern, or another cell.
-fn sync_cell(p: u8, zeros: &[u8], ones: &[u8], cs: &[u8], other: Cell) -> Cell
-    ensures { λ r. ⌜ r ≡ syncCell (now (zeros .entry)) (now (ones .entry)) (now (cs .entry)) p other ⌝ }
+// Whether a bit of twenty octets is one; behind them there is none.
+fn bit_in(octets: &[u8], p: usize) -> bool
+    requires { ⌜ length (now octets) ≡ 20 ⌝ }
+    ensures { λ r. ⌜ r ≡ bitAt (now (octets .entry)) p ⌝ }
 {
-    if index_in(zeros, p) < zeros.len() {
+    if p < 160 { bits::bit(octets, p) } else { false }
+}
+
+// A fixed bit by the octets of a pattern (which bits are fixed, and the fixed ones), a C bit by its list, or another cell.
+fn sync_cell(p: u8, mask: &[u8], fixed: &[u8], cs: &[u8], other: Cell) -> Cell
+    requires { ⌜ (length (now mask) ≡ 20) × (length (now fixed) ≡ 20) ⌝ }
+    ensures { λ r. ⌜ ((zeros ones : List ℕ) → FixedBy zeros ones (now (mask .entry)) (now (fixed .entry)) → r ≡ syncCell zeros ones (now (cs .entry)) p other) ⌝ }
+{
+    let place = p as usize;
+    if bit_in(mask, place) {
+        if bit_in(fixed, place) {
+            return Cell::One;
+        }
         return Cell::Zero;
-    }
-    if index_in(ones, p) < ones.len() {
-        return Cell::One;
     }
     let i = index_in(cs, p);
     if i < cs.len() {
@@ -151,13 +165,13 @@ pub fn cell_at(k: Kind, p: u8) -> Cell
     let other = beside_cell(k, p, d_cell(k, p, tail_cell(k, p)));
     let n = kinds::number(k);
     if n < 5 {
-        return sync_cell(p, &places::HR_ZEROS, &places::HR_ONES, &places::HR_C, other);
+        return sync_cell(p, &places::HR_MASK, &places::HR_FIXED, &places::HR_C, other);
     }
     if n < 7 {
         return sync_cell(
             p,
-            &places::LOW_ZEROS,
-            &places::LOW_ONES,
+            &places::LOW_MASK,
+            &places::LOW_FIXED,
             &places::LOW_C,
             other,
         );
@@ -165,16 +179,16 @@ pub fn cell_at(k: Kind, p: u8) -> Cell
     if n < 8 {
         return sync_cell(
             p,
-            &places::P670_ZEROS,
-            &places::P670_ONES,
+            &places::P670_MASK,
+            &places::P670_FIXED,
             &places::AMR_C,
             other,
         );
     }
     sync_cell(
         p,
-        &places::P740_ZEROS,
-        &places::P740_ONES,
+        &places::P740_MASK,
+        &places::P740_FIXED,
         &places::AMR_C,
         other,
     )

@@ -1,13 +1,12 @@
 -- How the code's tests come to the definitions of fixed bits and coding.
 -- Assumes nothing.
-use mathlib.Core.Path.{_≡_, refl, sym, _∙_, ap, fun-ext}
-use mathlib.Core.Bool.{Bool, true, false, not, _&&_, cond, Bool·beq}
-use mathlib.Core.List.{List, [], _∷_, _++_}
-use Prim.Native.Nat.{ℕ, zero, suc, _+_, _*_, _/_, _%_, _<_, _≤_, zero-le}
+use mathlib.Core.Path.{_≡_, refl, sym, _∙_, ap}
+use mathlib.Core.Bool.{Bool, true, false, _&&_, cond, Bool·beq}
+use mathlib.Core.List.{List, [], _∷_}
+use Prim.Native.Nat.{ℕ, zero, suc, _+_, _*_, _/_, _%_, _<_, zero-le}
 use native.Mathlib.Omega.{arith}
-use borrow.Author.Tests.{eq-eqb, ne-eqb, eqb-true}
-use lib.Dec.{T, eqb, ltb, ltb→lt, eqb→eq}
-use lib.ListN.{length, getD, drop}
+use borrow.Author.Tests.{eq-eqb, ne-eqb}
+use lib.Dec.{T, eqb, ltb, ltb→lt}
 use Rattle.bits.specs.Bit.{toN, number, count}
 use Rattle.bits.proofs.BitLaws.{toN-lt, toN-one}
 use Rattle.channel.specs.declared.Direction.{Direction}
@@ -18,12 +17,11 @@ use Rattle.channel.specs.declared.Kind.{Kind}
 use Rattle.channel.specs.Kinds.{patternOf}
 use Rattle.channel.specs.declared.Kind.the-variants.{Speech, Data, Om, Configuration, NoSpeech, Lower, Amr670, Amr740}
 use Rattle.channel.specs.Places.{elem, cPlaces, xcPlaces}
-use Rattle.channel.specs.Coding.{Word, bitsAt, all, odd, fixed, c1to3, c4to5, c4, c4Coded, hrCoded, xcCoded, speechXc, coded, isBody}
+use Rattle.channel.specs.Coding.{Word, bitsAt, all, odd, fixed, c1to3, c4to5, c4, c4Coded, hrCoded, xcCoded, speechXc, coded}
 use Rattle.channel.proofs.BoolLaws.{all-at, and-both, and-false, never}
 use Rattle.channel.proofs.DLaws.{elem-count}
-use Rattle.channel.proofs.FrameLaws.{onlyPattern, one-pattern, one-body}
+use Rattle.channel.proofs.FrameLaws.{one-pattern, one-body}
 use Rattle.word.specs.Below.{Below}
-use Rattle.word.specs.Covered.{Steady, Covered}
 use Rattle.frame.specs.declared.coding.Found.{Found}
 use Rattle.frame.specs.declared.coding.Found.the-variants.{Is, Nothing}
 use Rattle.frame.specs.declared.coding.Sync.{Sync}
@@ -44,79 +42,46 @@ listed-below m [] t j h = absurd (omega arith)
 listed-below m (p ∷ ps) t zero h = ltb→lt p m (both (ltb p m) (allLt m ps) t .0)
 listed-below m (p ∷ ps) t (suc j) h = listed-below m ps (both (ltb p m) (allLt m ps) t .1) j (omega arith)
 
--- a list that a test finds to start with another
-abbrev starts : List ℕ → List ℕ → Bool
-starts [] ps = true
-starts (x ∷ xs) [] = false
-starts (x ∷ xs) (p ∷ ps) = eqb p x && starts xs ps
-
-split-off : (xs ps : List ℕ) → T (starts xs ps) → ps ≡ xs ++ drop (length xs) ps
-split-off [] ps t = refl
-split-off (x ∷ xs) [] t = absurd t
-split-off (x ∷ xs) (p ∷ ps) t =
-    let b = both (eqb p x) (starts xs ps) t in
-    λ i. eqb→eq p x (b .0) i ∷ split-off xs ps (b .1) i
-
--- a list that a test finds to be one that a CRC may cover
-abbrev ended : ℕ → List ℕ → Bool
-ended p ps = cond (eqb (p % 8) 1 && eqb (getD ps 5 0) (p + 6)) (starts (count 7 p) (p ∷ ps)) true
-
-abbrev steady : List ℕ → Bool
-steady [] = true
-steady (p ∷ ps) = ended p ps && steady ps
-
-listed-steady : (ps : List ℕ) → T (steady ps) → Steady ps
-listed-steady [] t zero h e = absurd (omega arith)
-listed-steady [] t (suc j) h e = absurd (omega arith)
-listed-steady (p ∷ ps) t zero h e = split-off (count 7 p) (p ∷ ps) (rw (eq-eqb (p % 8) 1 h, eq-eqb (getD ps 5 0) (p + 6) e) at (both (ended p ps) (steady ps) t .0))
-listed-steady (p ∷ ps) t (suc j) h e = listed-steady ps (both (ended p ps) (steady ps) t .1) j h e
-
-pub listed-covered : (ps : List ℕ) → T (allLt 160 ps && steady ps) → Covered ps
-listed-covered ps t = let b = both (allLt 160 ps) (steady ps) t in (listed-below 160 ps (b .0), listed-steady ps (b .1))
-
-beq-false : (b : Bool) → Bool·beq b false ≡ not b
-beq-false true = refl
-beq-false false = refl
-
-beq-true : (b : Bool) → Bool·beq b true ≡ b
-beq-true true = refl
-beq-true false = refl
-
--- all bits at some places are zeros, or ones
-all-zeros : (g : Word) (ps : List ℕ) → all (λ p. Bool·beq (g p) false) ps ≡ all (λ p. not (g p)) ps
-all-zeros g ps = ap (λ (t : ℕ → Bool). all t ps) (fun-ext (λ p. beq-false (g p)))
-
-all-ones : (g : Word) (ps : List ℕ) → all (λ p. Bool·beq (g p) true) ps ≡ all g ps
-all-ones g ps = ap (λ (t : ℕ → Bool). all t ps) (fun-ext (λ p. beq-true (g p)))
-
-pub fixed-if : (g : Word) (zeros ones : List ℕ) → all (λ p. Bool·beq (g p) false) zeros ≡ true
-    → all (λ p. Bool·beq (g p) true) ones ≡ all (λ p. not (g p)) zeros && all g ones
-fixed-if g zeros ones h = all-ones g ones ∙ ap (λ (b : Bool). b && all g ones) (sym (sym (all-zeros g zeros) ∙ h))
-
-pub fixed-not : (g : Word) (zeros ones : List ℕ) → all (λ p. Bool·beq (g p) false) zeros ≡ false → false ≡ all (λ p. not (g p)) zeros && all g ones
-fixed-not g zeros ones h = ap (λ (b : Bool). b && all g ones) (sym (sym (all-zeros g zeros) ∙ h))
-
--- where the fixed bits of the only pattern that can hold do not hold, none's do
-pub nowhere : (g : Word) (s : Pattern) → onlyPattern g ≡ s → fixed g s ≡ false → (t : Pattern) → fixed g t ≡ false
-nowhere g s e h t = go (fixed g t) refl
+-- where the fixed bits of the one pattern that can hold do not hold, none's do
+pub nowhere : (g : Word) (s : Pattern) → ((t : Pattern) → fixed g t ≡ true → t ≡ s) → fixed g s ≡ false → (t : Pattern) → fixed g t ≡ false
+nowhere g s only h t = go (fixed g t) refl
   where
     go : (b : Bool) → fixed g t ≡ b → fixed g t ≡ false
     go false q = q
-    go true q = let r : s ≡ t = sym e ∙ one-pattern g t q in sym (ap (fixed g) r) ∙ h
+    go true q = ap (fixed g) (only t q) ∙ h
 
--- the only pattern that can hold, by the three bits as the code tests them
-module _ (g : Word) where
-  pub only-740 : g 2 ≡ true → onlyPattern g ≡ P740
-  only-740 a = rw a
+-- a field of one bit
+module _ (b : Bool) (r : ℕ) (is : r ≡ number (b ∷ [])) where
+  field-bit : r ≡ toN b
+  field-bit = omega arith
 
-  pub only-670 : g 2 ≡ false → g 16 ≡ true → g 24 ≡ true → onlyPattern g ≡ P670
-  only-670 a b c = rw (a, b, c)
+  pub bit-one : r ≡ 1 → b ≡ true
+  bit-one e = go b field-bit
+    where
+      go : (b : Bool) → r ≡ toN b → b ≡ true
+      go true h = refl
+      go false h = absurd (omega arith)
 
-  pub only-low : g 2 ≡ false → g 16 ≡ true → g 24 ≡ false → onlyPattern g ≡ Low
-  only-low a b c = rw (a, b, c)
+  pub bit-zero : (r ≡ 1 → ⊥) → b ≡ false
+  bit-zero e = go b field-bit
+    where
+      go : (b : Bool) → r ≡ toN b → b ≡ false
+      go true h = absurd (e h)
+      go false h = refl
 
-  pub only-hr : g 2 ≡ false → g 16 ≡ false → onlyPattern g ≡ Hr
-  only-hr a b = rw (a, b)
+-- the one pattern that can hold, by the three bits as the code tests them
+module _ (g : Word) (t : Pattern) (h : fixed g t ≡ true) where
+  pub only-740 : g 2 ≡ true → t ≡ P740
+  only-740 a = sym (one-pattern g t h) ∙ rw a
+
+  pub only-hr : g 2 ≡ false → g 16 ≡ false → t ≡ Hr
+  only-hr a b = sym (one-pattern g t h) ∙ rw (a, b)
+
+  pub only-670 : g 2 ≡ false → g 16 ≡ true → g 24 ≡ true → t ≡ P670
+  only-670 a b c = sym (one-pattern g t h) ∙ rw (a, b, c)
+
+  pub only-low : g 2 ≡ false → g 16 ≡ true → g 24 ≡ false → t ≡ Low
+  only-low a b c = sym (one-pattern g t h) ∙ rw (a, b, c)
 
 -- a fact at every number below n, by one test that is computed
 abbrev everywhere : ℕ → (ℕ → Bool) → (ℕ → Bool) → Bool
@@ -159,22 +124,20 @@ module _ (a b c d e : Bool) where
   six-top : (f : Bool) → number (a ∷ b ∷ c ∷ d ∷ e ∷ f ∷ []) / 2 ≡ number (a ∷ b ∷ c ∷ d ∷ e ∷ [])
   six-top f = omega (arith, toN-lt f)
 
-  five-lt : number (a ∷ b ∷ c ∷ d ∷ e ∷ []) < 32
-  five-lt = omega (arith, toN-lt a, toN-lt b, toN-lt c, toN-lt d, toN-lt e)
-
 pub and-not : (a b : Bool) → b ≡ false → a && b ≡ false
 and-not a b h = rw h (and-false a)
 
 pub and-left : (a b : Bool) → a ≡ false → a && b ≡ false
 and-left a b h = rw h
 
+-- XC1..XC6 packed from two fields
+pub xc-packed : (g : Word) (a b : ℕ) → a ≡ number (bitsAt g (14 ∷ 15 ∷ [])) → b ≡ number (bitsAt g (18 ∷ 19 ∷ 20 ∷ 21 ∷ [])) → 16 * a + b ≡ number (bitsAt g xcPlaces)
+xc-packed g a b e f = rw (e, f) (omega arith)
+
 -- XC1..XC6 packed in a field x
 module _ (g : Word) (x : ℕ) (packed : x ≡ number (bitsAt g xcPlaces)) where
   xc-number : x / 2 ≡ number (g 14 ∷ g 15 ∷ g 18 ∷ g 19 ∷ g 20 ∷ [])
   xc-number = rw packed (six-top (g 14) (g 15) (g 18) (g 19) (g 20) (g 21))
-
-  pub xc-lt : x / 2 < 32
-  xc-lt = rw xc-number (five-lt (g 14) (g 15) (g 18) (g 19) (g 20))
 
   pub xc-odd : (vs : List ℕ) → odd (bitsAt g xcPlaces) ≡ true → elem (x / 2) vs ≡ xcCoded g vs
   xc-odd vs h = rw (h, xc-number)

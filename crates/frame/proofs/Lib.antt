@@ -1,2 +1,3 @@
 pub mod CodingLaws
+pub mod KeptLaws
 pub mod VerdictLaws

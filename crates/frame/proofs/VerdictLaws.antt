@@ -1,16 +1,14 @@
 -- How the code's modes, verdicts and wrong CRCs come to the definitions.
 -- Assumes nothing.
 use mathlib.Core.Path.{_≡_, refl, sym, _∙_, ap, subst}
-use mathlib.Core.Bool.{Bool, true, false, not}
+use mathlib.Core.Bool.{not, false}
 use mathlib.Core.List.{List, [], _∷_}
-use Prim.Native.Nat.{ℕ, zero, suc, _+_, _*_, _^_, _<_, _≤_}
+use Prim.Native.Nat.{ℕ, zero, suc, _+_, _*_, _≤_}
 use native.Mathlib.Omega.{arith}
-use native.Mathlib.Nat.{pow-suc}
 use borrow.Author.Tests.{eq-eqb, ne-eqb}
 use lib.Dec.{eqb}
-use lib.ListN.{length, getD, List·getD-eq-default}
+use lib.ListN.{getD, List·getD-eq-default}
 use Rattle.bits.specs.Bit.{toN}
-use Rattle.bits.proofs.BitLaws.{toN-lt}
 use Rattle.channel.specs.declared.Pattern.the-variants.{Low}
 use Rattle.channel.specs.declared.Kind.{Kind}
 use Rattle.channel.specs.declared.Kind.the-variants.{Lower}
@@ -63,26 +61,20 @@ mode-context x g own e h = rw (eq-eqb (ownMode g) 0 (sym e ∙ h))
 pub mode-own : (x : ℕ) (g : Word) (own : ℕ) → own ≡ ownMode g → (own ≡ 0 → ⊥) → own ≡ modeOf x g Lower
 mode-own x g own e h = rw (ne-eqb (ownMode g) 0 (λ z. h (e ∙ z))) e
 
--- one bit for each wrong CRC
-wrongs-lt : (g : Word) (cs : List (List ℕ)) → wrongs g cs < 2 ^ length cs
-wrongs-lt g [] = omega arith
-wrongs-lt g (ps ∷ cs) = rw pow-suc (omega (arith, wrongs-lt g cs, toN-lt (not (right g ps))))
+-- the wrong ones of one CRC and of four
+pub one-wrong : (g : Word) (ps : List ℕ) (r : ℕ) → r ≡ toN (not (right g ps)) → r ≡ wrongs g (ps ∷ [])
+one-wrong g ps r e = omega arith
 
-pub lower-lt : (g : Word) (mode : ℕ) → length (checksLower mode) ≡ 4 → wrongs g (checksLower mode) < 16
-lower-lt g mode e = rw e at (wrongs-lt g (checksLower mode))
-
-pub four-wrongs : (g : Word) (ps qs rs ss : List ℕ) (a b c d : Bool) → a ≡ right g ps → b ≡ right g qs → c ≡ right g rs → d ≡ right g ss
-    → toN (not a) + 2 * toN (not b) + 4 * toN (not c) + 8 * toN (not d) ≡ wrongs g (ps ∷ qs ∷ rs ∷ ss ∷ [])
+pub four-wrongs : (g : Word) (ps qs rs ss : List ℕ) (a b c d : ℕ) → a ≡ toN (not (right g ps)) → b ≡ toN (not (right g qs)) → c ≡ toN (not (right g rs)) → d ≡ toN (not (right g ss))
+    → a + 2 * b + 4 * c + 8 * d ≡ wrongs g (ps ∷ qs ∷ rs ∷ ss ∷ [])
 four-wrongs g ps qs rs ss a b c d p q r s = rw (p, q, r, s) (omega arith)
 
-pub one-wrong : (g : Word) (ps : List ℕ) (a : Bool) → a ≡ right g ps → toN (not a) ≡ wrongs g (ps ∷ [])
-one-wrong g ps a p = rw p (omega arith)
-
--- the verdict of a kind with one CRC
-pub one-verdict : (x : ℕ) (g : Word) (k : Kind) (ps : List ℕ) (a : Bool) → unchecked x g k ≡ false → modeOf x g k ≡ 0 → checks 0 k ≡ ps ∷ [] → a ≡ right g ps → toN (not a) ≡ verdictOf x g k
+-- the verdict of a kind with CRCs of its own
+pub own-verdict : (x : ℕ) (g : Word) (k : Kind) (r : ℕ) → unchecked x g k ≡ false → modeOf x g k ≡ 0 → r ≡ wrongs g (checks 0 k) → r ≡ verdictOf x g k
 unfolding verdictOf
-one-verdict x g k ps a u m c p = rw (u, m, c) (omega (arith, one-wrong g ps a p))
+own-verdict x g k r u m e = rw (u, m) (omega arith)
 
+-- and of a kind 6
 pub lower-verdict : (x : ℕ) (g : Word) (mode r : ℕ) → mode ≡ modeOf x g Lower → r ≡ 128 * toN (eqb mode 0) + 16 * mode + wrongs g (checksLower mode) → r ≡ verdictOf x g Lower
 unfolding verdictOf checks
 lower-verdict x g mode r m e = e ∙ ap (λ (n : ℕ). 128 * toN (eqb n 0) + 16 * n + wrongs g (checksLower n)) m

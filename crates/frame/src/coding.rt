@@ -1,18 +1,20 @@
 // The kind of a frame by its fixed bits and its coding.
 ghost use mathlib.Core.Path.{_≡_};
-ghost use mathlib.Core.Bool.{not, _&&_};
-ghost use mathlib.Core.List.{[], _∷_};
-ghost use Prim.Native.Nat.{_<_};
-ghost use Rattle.bits.specs.Bit.{bitAt};
-ghost use Rattle.channel.specs.Places.{elem};
-ghost use Rattle.channel.specs.Coding.{all, c4Coded, xcCoded, speechXc};
+ghost use mathlib.Core.Bool.{true};
+ghost use mathlib.Core.List.{[], _∷_, List};
+ghost use Prim.Native.Nat.{_<_, ℕ};
+ghost use Rattle.bits.specs.Bit.{bitAt, number};
+ghost use Rattle.channel.specs.Places.{elem, xcPlaces};
+ghost use Rattle.channel.specs.Coding.{bitsAt, c4Coded, xcCoded, speechXc, fixed};
+ghost use Rattle.channel.specs.declared.Pattern.{Pattern as Fixed};
 ghost use Rattle.channel.specs.declared.Pattern.the-variants.{Hr, Low};
-ghost use Rattle.word.specs.Below.{Below};
+ghost use Rattle.word.specs.Words.{Holds};
 ghost use Rattle.frame.specs.Found.{Held, Coded, KindOf};
 use crate::places;
 use channel::Direction;
 use channel::Kind;
 use channel::Pattern;
+use word::Words;
 
 // A kind, or none.
 pub enum Found {
@@ -26,42 +28,57 @@ pub enum Sync {
     Nowhere,
 }
 
-// Whether all of the zeros and all of the ones hold.
-fn fixed_bits(o: [u8; 20], zeros: &[u8], ones: &[u8]) -> bool
-    requires { ⌜ Below 160 (now zeros) × Below 160 (now ones) ⌝ }
-    ensures { λ r. ⌜ r ≡ all (λ i. not (bitAt o i)) (now (zeros .entry)) && all (bitAt o) (now (ones .entry)) ⌝ }
+// Whether the fixed bits of a pattern hold.
+fn holds(w: Words, t: Pattern) -> bool
+    ensures { λ r. ⌜ ((o : List ℕ) → Holds (bitAt o) (w .a) (w .b) (w .c) → r ≡ fixed (bitAt o) t) ⌝ }
 {
-    if word::all_are(o, zeros, false) {
-        word::all_are(o, ones, true)
-    } else {
-        false
+    match t {
+        Pattern::Hr => word::fixed(
+            w,
+            word::words_of(&places::HR_MASK),
+            word::words_of(&places::HR_FIXED),
+        ),
+        Pattern::Low => word::fixed(
+            w,
+            word::words_of(&places::LOW_MASK),
+            word::words_of(&places::LOW_FIXED),
+        ),
+        Pattern::P670 => word::fixed(
+            w,
+            word::words_of(&places::P670_MASK),
+            word::words_of(&places::P670_FIXED),
+        ),
+        Pattern::P740 => word::fixed(
+            w,
+            word::words_of(&places::P740_MASK),
+            word::words_of(&places::P740_FIXED),
+        ),
     }
 }
 
-// The pattern whose fixed bits hold. Octet 1 bit 3, octet 3 bit 1 and octet 4 bit 1 leave one that can, and its list alone is gone through.
-fn pattern_of(o: [u8; 20]) -> Sync
-    ensures { λ r. ⌜ Held (bitAt o) r ⌝ }
+// The one pattern whose fixed bits can hold: octet 1 bit 3, octet 3 bit 1 and octet 4 bit 1 rule out the others.
+fn candidate(w: Words) -> Pattern
+    ensures { λ r. ⌜ ((o : List ℕ) → Holds (bitAt o) (w .a) (w .b) (w .c) → (t : Fixed) → fixed (bitAt o) t ≡ true → t ≡ r) ⌝ }
 {
-    if bits::bit(&o, 2) {
-        if fixed_bits(o, &places::P740_ZEROS, &places::P740_ONES) {
-            return Sync::In(Pattern::P740);
-        }
-        return Sync::Nowhere;
+    if word::field_of(w.a, 2, 1) == 1 {
+        return Pattern::P740;
     }
-    if bits::bit(&o, 16) {
-        if bits::bit(&o, 24) {
-            if fixed_bits(o, &places::P670_ZEROS, &places::P670_ONES) {
-                return Sync::In(Pattern::P670);
-            }
-            return Sync::Nowhere;
-        }
-        if fixed_bits(o, &places::LOW_ZEROS, &places::LOW_ONES) {
-            return Sync::In(Pattern::Low);
-        }
-        return Sync::Nowhere;
+    if word::field_of(w.a, 16, 1) == 0 {
+        return Pattern::Hr;
     }
-    if fixed_bits(o, &places::HR_ZEROS, &places::HR_ONES) {
-        return Sync::In(Pattern::Hr);
+    if word::field_of(w.a, 24, 1) == 1 {
+        return Pattern::P670;
+    }
+    Pattern::Low
+}
+
+// The pattern whose fixed bits hold, all of them tested at once.
+fn pattern_of(w: Words) -> Sync
+    ensures { λ r. ⌜ ((o : List ℕ) → Holds (bitAt o) (w .a) (w .b) (w .c) → Held (bitAt o) r) ⌝ }
+{
+    let t = candidate(w);
+    if holds(w, t) {
+        return Sync::In(t);
     }
     Sync::Nowhere
 }
@@ -76,11 +93,18 @@ fn c4_coded(d: Direction, c4: bool) -> bool
     }
 }
 
-// Whether XC1..XC6 of a speech frame are a coding: XC1..XC5 read as a number are 0..3 or 8..15 in uplink, 0 or 2 in downlink.
-fn speech_xc(o: [u8; 20], d: Direction) -> bool
-    ensures { λ r. ⌜ r ≡ xcCoded (bitAt o) (speechXc d) ⌝ }
+// XC1..XC6 packed: octet 2 bits 7, 8 and octet 3 bits 3..6.
+fn xc_field(w: Words) -> u32
+    ensures { λ r. ⌜ (r < 64) × ((o : List ℕ) → Holds (bitAt o) (w .a) (w .b) (w .c) → r ≡ number (bitsAt (bitAt o) xcPlaces)) ⌝ }
 {
-    let xc = word::packed(o, &places::XC);
+    16 * word::field_of(w.a, 14, 2) + word::field_of(w.a, 18, 4)
+}
+
+// Whether XC1..XC6 of a speech frame are a coding: XC1..XC5 read as a number are 0..3 or 8..15 in uplink, 0 or 2 in downlink.
+fn speech_xc(w: Words, d: Direction) -> bool
+    ensures { λ r. ⌜ ((o : List ℕ) → Holds (bitAt o) (w .a) (w .b) (w .c) → r ≡ xcCoded (bitAt o) (speechXc d)) ⌝ }
+{
+    let xc = xc_field(w);
     if word::odd_ones(xc) {
         speech_number(d, xc / 2)
     } else {
@@ -100,10 +124,10 @@ fn speech_number(d: Direction, v: u32) -> bool
 }
 
 // Whether XC1..XC6 of an O&M frame are its coding: XC1..XC5 are ones.
-fn om_xc(o: [u8; 20]) -> bool
-    ensures { λ r. ⌜ r ≡ xcCoded (bitAt o) (31 ∷ []) ⌝ }
+fn om_xc(w: Words) -> bool
+    ensures { λ r. ⌜ ((o : List ℕ) → Holds (bitAt o) (w .a) (w .b) (w .c) → r ≡ xcCoded (bitAt o) (31 ∷ [])) ⌝ }
 {
-    let xc = word::packed(o, &places::XC);
+    let xc = xc_field(w);
     if word::odd_ones(xc) {
         xc / 2 == 31
     } else {
@@ -111,11 +135,11 @@ fn om_xc(o: [u8; 20]) -> bool
     }
 }
 
-// The kind of the HR pattern whose coding holds: C1..C5 by their parity, C4 by the direction, C1..C3 by type, then the XC bits.
-fn hr_kind(o: [u8; 20], d: Direction) -> Found
-    ensures { λ r. ⌜ Coded d (bitAt o) Hr r ⌝ }
+// The kind of the HR pattern whose coding holds: C1..C5 (octet 2 bits 2..6) by their parity, C4 by the direction, C1..C3 by type, then the XC bits.
+fn hr_kind(w: Words, d: Direction) -> Found
+    ensures { λ r. ⌜ ((o : List ℕ) → Holds (bitAt o) (w .a) (w .b) (w .c) → Coded d (bitAt o) Hr r) ⌝ }
 {
-    let c = word::packed(o, &places::HR_C);
+    let c = word::field_of(w.a, 9, 5);
     if !word::odd_ones(c) {
         return Found::Nothing;
     }
@@ -124,7 +148,7 @@ fn hr_kind(o: [u8; 20], d: Direction) -> Found
     }
     let c1to3 = c / 4;
     if c1to3 == 0 {
-        if speech_xc(o, d) {
+        if speech_xc(w, d) {
             return Found::Is(Kind::Speech);
         }
         return Found::Nothing;
@@ -133,7 +157,7 @@ fn hr_kind(o: [u8; 20], d: Direction) -> Found
         return Found::Is(Kind::Data);
     }
     if c1to3 == 2 {
-        if om_xc(o) {
+        if om_xc(w) {
             return Found::Is(Kind::Om);
         }
         return Found::Nothing;
@@ -144,11 +168,11 @@ fn hr_kind(o: [u8; 20], d: Direction) -> Found
     Found::Nothing
 }
 
-// The kind of the Low pattern whose coding holds: C4 C5 of 00 is kind 5, with C1..C3 of 100 or 101; otherwise kind 6.
-fn low_kind(o: [u8; 20], d: Direction) -> Found
-    ensures { λ r. ⌜ Coded d (bitAt o) Low r ⌝ }
+// The kind of the Low pattern whose coding holds: C4 C5 of 00 is kind 5, with C1..C3 of 100 or 101; otherwise kind 6. C1..C5 are octet 3 bits 2..6.
+fn low_kind(w: Words, d: Direction) -> Found
+    ensures { λ r. ⌜ ((o : List ℕ) → Holds (bitAt o) (w .a) (w .b) (w .c) → Coded d (bitAt o) Low r) ⌝ }
 {
-    let c = word::packed(o, &places::LOW_C);
+    let c = word::field_of(w.a, 17, 5);
     if c % 4 != 0 {
         return Found::Is(Kind::Lower);
     }
@@ -158,14 +182,15 @@ fn low_kind(o: [u8; 20], d: Direction) -> Found
     Found::Nothing
 }
 
-// The kind of a frame, by fixed bits and coding.
+// The kind of a frame, by fixed bits and coding. Only words are read here: where single octets are read too, the compiler no longer reads eight at once.
 pub fn kind_of(o: [u8; 20], d: Direction) -> Found
     ensures { λ r. ⌜ KindOf d (bitAt o) r ⌝ }
 {
-    match pattern_of(o) {
+    let w = word::words_of(&o);
+    match pattern_of(w) {
         Sync::In(t) => match t {
-            Pattern::Hr => hr_kind(o, d),
-            Pattern::Low => low_kind(o, d),
+            Pattern::Hr => hr_kind(w, d),
+            Pattern::Low => low_kind(w, d),
             Pattern::P670 => Found::Is(Kind::Amr670),
             Pattern::P740 => Found::Is(Kind::Amr740),
         },

@@ -1,69 +1,197 @@
 // Where the bits of a frame stand: places counted from 0 in the order of sending (5.2.5). That each table is what the definitions of `channel` say is
 // proved where it is used.
 
-// The fixed zeros of the HR pattern.
-pub const HR_ZEROS: [u8; 9] = [0, 1, 2, 3, 4, 5, 6, 7, 16];
-
-// The fixed ones of the HR pattern.
-pub const HR_ONES: [u8; 19] = [
-    8,
-    17,
-    24,
-    32,
-    40,
-    48,
-    56,
-    64,
-    72,
-    80,
-    88,
-    96,
-    104,
-    112,
-    120,
-    128,
-    136,
-    144,
-    152,
+// Which bits of the twenty octets the HR pattern fixes: octet 1 zero; octet 2 bit 1 one; octet 3 begins 01; octets 4..20 bit 1 one.
+pub const HR_MASK: [u8; 20] = [
+    0xff,
+    0x80,
+    0xc0,
+    0x80,
+    0x80,
+    0x80,
+    0x80,
+    0x80,
+    0x80,
+    0x80,
+    0x80,
+    0x80,
+    0x80,
+    0x80,
+    0x80,
+    0x80,
+    0x80,
+    0x80,
+    0x80,
+    0x80,
 ];
 
-// The fixed zeros of the Low pattern.
-pub const LOW_ZEROS: [u8; 9] = [0, 1, 2, 3, 4, 5, 6, 7, 24];
-
-// The fixed ones of the Low pattern.
-pub const LOW_ONES: [u8; 19] = [
-    8,
-    16,
-    25,
-    32,
-    40,
-    48,
-    56,
-    64,
-    72,
-    80,
-    88,
-    96,
-    104,
-    112,
-    120,
-    128,
-    136,
-    144,
-    152,
+// The HR pattern: its fixed bits, every other bit zero.
+pub const HR_FIXED: [u8; 20] = [
+    0x00,
+    0x80,
+    0x40,
+    0x80,
+    0x80,
+    0x80,
+    0x80,
+    0x80,
+    0x80,
+    0x80,
+    0x80,
+    0x80,
+    0x80,
+    0x80,
+    0x80,
+    0x80,
+    0x80,
+    0x80,
+    0x80,
+    0x80,
 ];
 
-// The fixed zeros of the 6,70 pattern.
-pub const P670_ZEROS: [u8; 9] = [0, 1, 2, 3, 4, 5, 6, 7, 40];
+// Which bits of the twenty octets the Low pattern fixes: octet 1 zero; octets 2, 3 bit 1 one; octet 4 begins 01; octets 5..20 bit 1 one.
+pub const LOW_MASK: [u8; 20] = [
+    0xff,
+    0x80,
+    0x80,
+    0xc0,
+    0x80,
+    0x80,
+    0x80,
+    0x80,
+    0x80,
+    0x80,
+    0x80,
+    0x80,
+    0x80,
+    0x80,
+    0x80,
+    0x80,
+    0x80,
+    0x80,
+    0x80,
+    0x80,
+];
 
-// The fixed ones of the 6,70 pattern.
-pub const P670_ONES: [u8; 11] = [8, 16, 24, 32, 48, 64, 80, 96, 112, 128, 144];
+// The Low pattern: its fixed bits, every other bit zero.
+pub const LOW_FIXED: [u8; 20] = [
+    0x00,
+    0x80,
+    0x80,
+    0x40,
+    0x80,
+    0x80,
+    0x80,
+    0x80,
+    0x80,
+    0x80,
+    0x80,
+    0x80,
+    0x80,
+    0x80,
+    0x80,
+    0x80,
+    0x80,
+    0x80,
+    0x80,
+    0x80,
+];
 
-// The fixed zeros of the 7,40 pattern.
-pub const P740_ZEROS: [u8; 4] = [0, 1, 8, 24];
+// Which bits of the twenty octets the 6,70 pattern fixes: octet 1 zero; octets 2..5 bit 1 one; octet 6 bit 1 zero; odd octets 7..19 bit 1 one.
+pub const P670_MASK: [u8; 20] = [
+    0xff,
+    0x80,
+    0x80,
+    0x80,
+    0x80,
+    0x80,
+    0x80,
+    0x00,
+    0x80,
+    0x00,
+    0x80,
+    0x00,
+    0x80,
+    0x00,
+    0x80,
+    0x00,
+    0x80,
+    0x00,
+    0x80,
+    0x00,
+];
 
-// The fixed ones of the 7,40 pattern.
-pub const P740_ONES: [u8; 2] = [2, 16];
+// The 6,70 pattern: its fixed bits, every other bit zero.
+pub const P670_FIXED: [u8; 20] = [
+    0x00,
+    0x80,
+    0x80,
+    0x80,
+    0x80,
+    0x00,
+    0x80,
+    0x00,
+    0x80,
+    0x00,
+    0x80,
+    0x00,
+    0x80,
+    0x00,
+    0x80,
+    0x00,
+    0x80,
+    0x00,
+    0x80,
+    0x00,
+];
+
+// Which bits of the twenty octets the 7,40 pattern fixes: octet 1 begins 001; octet 2 bit 1 zero; octet 3 bit 1 one; octet 4 bit 1 zero.
+pub const P740_MASK: [u8; 20] = [
+    0xe0,
+    0x80,
+    0x80,
+    0x80,
+    0x00,
+    0x00,
+    0x00,
+    0x00,
+    0x00,
+    0x00,
+    0x00,
+    0x00,
+    0x00,
+    0x00,
+    0x00,
+    0x00,
+    0x00,
+    0x00,
+    0x00,
+    0x00,
+];
+
+// The 7,40 pattern: its fixed bits, every other bit zero.
+pub const P740_FIXED: [u8; 20] = [
+    0x20,
+    0x00,
+    0x80,
+    0x00,
+    0x00,
+    0x00,
+    0x00,
+    0x00,
+    0x00,
+    0x00,
+    0x00,
+    0x00,
+    0x00,
+    0x00,
+    0x00,
+    0x00,
+    0x00,
+    0x00,
+    0x00,
+    0x00,
+];
 
 // C1..C5 of the HR pattern.
 pub const HR_C: [u8; 5] = [9, 10, 11, 12, 13];

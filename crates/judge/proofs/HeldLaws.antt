@@ -28,6 +28,8 @@ use Rattle.frame.specs.declared.coding.Found.the-variants.{Is, Nothing}
 use Rattle.item.specs.declared.Item.{Item}
 use Rattle.item.specs.Item.{frameOf, itemOf}
 use Rattle.dbits.specs.DBits.{dBytes}
+use Rattle.dbits.specs.Plan.{Plans, MadeMore}
+use Rattle.dbits.proofs.PlanLaws.{made-of}
 use Rattle.record.specs.Record.{numberAt, dLength, sizeOf, recordOf}
 use Rattle.record.specs.Size.{sizeBy}
 use Rattle.record.specs.Built.{fixedOctets, extendedPlaces, withParities, octetsBy}
@@ -35,7 +37,7 @@ use Rattle.record.proofs.RecordLaws.{four-bytes, record-length}
 use Rattle.record.proofs.BuiltLaws.{body-framed, built}
 use Rattle.record.proofs.OneLaws.{kind-one, words-one, cut-cut, d-long}
 use Rattle.judge.specs.Sound.{SoundAs, Unsound}
-use Rattle.judge.specs.Held.{kindBy, nothing, HeldAs, SameTo, SoundBy, FoundAs}
+use Rattle.judge.specs.Held.{kindBy, nothing, HeldAs, PlanFor, SameTo, SoundBy, FoundAs}
 
 -- the octets step by step, each lent its bytes of the record
 pub built-from : (part : List ℕ) (k : Kind) (o₀ o₁ o₂ o₃ o₄ : List ℕ) → 12 + dLength k ≤ length part → o₀ ≡ fixedOctets (patternOf k)
@@ -263,3 +265,21 @@ unsound-nothing d part i h e f rest s = apart (sym (nothing-is e) ∙ h .is d f 
 
     apart : reading.gap (i .start) (i .length) ≡ frame f → ⊥
     apart e = let z : _≡_ {A = ℕ} 0 1 = cc in omega arith
+
+-- the plan of the kind that was found, and none where nothing was
+pub plan-for : (places before after : List ℕ) (k : Kind) → MadeMore places k before after → PlanFor (Is k) places after
+plan-for places before after k m =
+    record {
+      plans = m .plans;
+      made = λ o e. let q : o ≡ k = cc in rw q (made-of places after k (m .plans) (m .here));
+    }
+
+pub plan-none : (i : Item) (places plan : List ℕ) → i ≡ nothing → Plans places plan → PlanFor (i .found) places plan
+plan-none i places plan e p =
+    record {
+      plans = p;
+      made = λ k f.
+          let none : Nothing ≡ Is k = ap (λ (j : Item). j .found) (sym e) ∙ f in
+          let z : _≡_ {A = ℕ} 0 1 = cc in
+          absurd (omega arith);
+    }

@@ -10,6 +10,7 @@ use Rattle.channel.specs.declared.Direction.{Direction}
 use Rattle.channel.specs.declared.Kind.{Kind}
 use Rattle.channel.specs.declared.Kind.the-variants.{Speech, Data, Om, Configuration, NoSpeech, Lower, Amr670, Amr740}
 use Rattle.channel.specs.Frames.{Frame}
+use Rattle.dbits.specs.Plan.{Made, Plans}
 use Rattle.frame.specs.declared.coding.Found.{Found}
 use Rattle.frame.specs.declared.coding.Found.the-variants.{Is, Nothing}
 use Rattle.item.specs.declared.Item.{Item}
@@ -32,6 +33,11 @@ pub record HeldAs (bytes : List ℕ) (i : Item) : Type 0 where
   pub start-fits : i .start < 4294967296
   pub length-fits : i .length < 4294967296
   pub long : (k : Kind) → i .found ≡ Is k → 12 + dLength k ≤ length bytes
+
+-- the plans of the table that are made, that of the kind found among them
+pub record PlanFor (found : Found) (places plan : List ℕ) : Type 0 where
+  pub plans : Plans places plan
+  pub made : (k : Kind) → found ≡ Is k → Made places plan k
 
 -- the first n bytes of two lists are the same, or are not
 abbrev pub SameTo : ℕ → List ℕ → List ℕ → Bool → Type 0

@@ -6,10 +6,13 @@ ghost use Prim.Native.Nat.{_≤_, _<_};
 ghost use lib.ListN.{length};
 ghost use Rattle.bits.specs.Bit.{bitAt};
 ghost use Rattle.channel.specs.Coding.{isBody};
+ghost use Rattle.channel.specs.declared.Kind.{Kind};
+ghost use Rattle.dbits.specs.Plan.{Made, Plans};
+ghost use Rattle.frame.specs.Kept.{Kept};
 ghost use Rattle.frame.specs.declared.coding.Found.the-variants.{Is};
 ghost use Rattle.item.specs.Item.{frameOf, itemOf, cursorOf};
 ghost use Rattle.record.specs.Record.{sizeOf, recordOf};
-ghost use Rattle.judge.specs.Held.{kindBy, nothing, HeldAs, SameTo, SoundBy, FoundAs, numberOf};
+ghost use Rattle.judge.specs.Held.{kindBy, nothing, HeldAs, PlanFor, SameTo, SoundBy, FoundAs, numberOf};
 use channel::Direction;
 use channel::Kind;
 use frame::Found;
@@ -61,16 +64,18 @@ fn unsound() -> Item
 }
 
 // The frame that the bytes of a record make, if they are the sound record of one; nothing where the kind is unknown or the record is cut short.
-pub fn held(part: &[u8]) -> Item
-    requires { ⌜ 0 < length (now part) ⌝ }
-    ensures { λ r. ⌜ HeldAs (now (part .entry)) r ⌝ }
+// The plan of the kind is made where it is not made yet.
+pub fn held(part: &[u8], table: &[u8], plan: &mut [u32]) -> Item
+    requires { ⌜ (0 < length (now part)) × Plans (now table) (now plan) ⌝ }
+    ensures { λ r. ⌜ HeldAs (now (part .entry)) r × PlanFor (r .found) (now (table .entry)) (now (plan .exit)) ⌝ }
 {
     match kind_by(part[0]) {
         Found::Is(k) => {
             if part.len() < record::size(Found::Is(k)) {
                 return unsound();
             }
-            let octets = octets::octets_by(part, k);
+            dbits::ready(plan, table, k);
+            let octets = octets::octets_by(part, k, table, plan);
             let start = record::number_at(part, 1) as usize;
             let tail = record::number_at(part, 5) as usize;
             Item {
@@ -109,19 +114,19 @@ fn begins(a: &[u8], b: &[u8], n: usize) -> bool
 }
 
 // Whether the bytes begin with the record of an item, which is put anew and compared: so no bit is set that must be zero.
-fn is_record(part: &[u8], i: Item) -> bool
-    requires { ⌜ sizeOf (itemOf i) ≤ length (now part) ⌝ }
+fn is_record(part: &[u8], i: Item, table: &[u8], plan: &[u32]) -> bool
+    requires { ⌜ (sizeOf (itemOf i) ≤ length (now part)) × ((k : Kind) → i .found ≡ Is k → Made (now table) (now plan) k) ⌝ }
     ensures { λ r. ⌜ SameTo (sizeOf (itemOf i)) (recordOf (itemOf i)) (now (part .entry)) r ⌝ }
 {
     let mut anew = [0u8; 31];
-    record::put(&mut anew, i);
+    record::put(&mut anew, i, table, plan);
     let found = i.found;
     begins(&anew, part, record::size(found))
 }
 
 // Whether the record that is held as a frame of a kind is sound: fixed bits and coding, the least tail, and the record of that frame.
-fn sound(part: &[u8], d: Direction, i: Item, k: Kind) -> bool
-    requires { ⌜ HeldAs (now part) i × (i .found ≡ Is k) ⌝ }
+fn sound(part: &[u8], d: Direction, i: Item, k: Kind, table: &[u8], plan: &[u32]) -> bool
+    requires { ⌜ HeldAs (now part) i × (i .found ≡ Is k) × PlanFor (i .found) (now table) (now plan) ⌝ }
     ensures { λ r. ⌜ SoundBy d (now (part .entry)) (frameOf k (i .octets) (i .start) (i .length) (i .verdict)) r ⌝ }
 {
     let octets = i.octets;
@@ -132,19 +137,19 @@ fn sound(part: &[u8], d: Direction, i: Item, k: Kind) -> bool
     if tail < kinds::least_tail(d, k) {
         return false;
     }
-    is_record(part, i)
+    is_record(part, i, table, plan)
 }
 
 // The frame that the bytes begin with the sound record of, or nothing where the record is unsound.
-pub fn frame_of(part: &[u8], d: Direction) -> Item
-    requires { ⌜ 0 < length (now part) ⌝ }
-    ensures { λ r. ⌜ FoundAs d (now (part .entry)) (itemOf r) × (r .start ≤ 4294967295) × (r .length ≤ 4294967295) ⌝ }
+pub fn frame_of(part: &[u8], d: Direction, table: &[u8], plan: &mut [u32]) -> Item
+    requires { ⌜ (0 < length (now part)) × Plans (now table) (now plan) ⌝ }
+    ensures { λ r. ⌜ FoundAs d (now (part .entry)) (itemOf r) × (r .start ≤ 4294967295) × (r .length ≤ 4294967295) × Plans (now (table .entry)) (now (plan .exit)) ⌝ }
 {
-    let i = held(part);
+    let i = held(part, table, plan);
     let found = i.found;
     match found {
         Found::Is(k) => {
-            if sound(part, d, i, k) {
+            if sound(part, d, i, k, table, plan) {
                 return i;
             }
             unsound()
@@ -154,9 +159,9 @@ pub fn frame_of(part: &[u8], d: Direction) -> Item
 }
 
 // The number of the item that a record is found to be, at a cursor and before the end of a buffer of some bits: 5, 6 and 4 in that order, or 0.
-pub fn number(i: Item, c: Cursor, bits: usize) -> u64
-    requires { ⌜ (i .start ≤ 4294967295) × (i .length ≤ 4294967295) ⌝ }
-    ensures { λ r. ⌜ r ≡ numberOf bits (cursorOf c) (itemOf i) ⌝ }
+pub fn number(i: Item, c: Cursor, bits: usize, masks: &mut [u64]) -> u64
+    requires { ⌜ (i .start ≤ 4294967295) × (i .length ≤ 4294967295) × Kept (now masks) ⌝ }
+    ensures { λ r. ⌜ (r ≡ numberOf bits (cursorOf c) (itemOf i)) × Kept (now (masks .exit)) ⌝ }
 {
     let start = i.start;
     let tail = i.length;
@@ -168,7 +173,7 @@ pub fn number(i: Item, c: Cursor, bits: usize) -> u64
             if start != c.position {
                 return 6;
             }
-            let due = frame::verdict_in(octets, k, c.context);
+            let due = frame::verdict_in(octets, k, c.context, masks);
             if verdict != due {
                 return 6;
             }

@@ -6,122 +6,26 @@ ghost use Rattle.bits.specs.Bit.{bitAt};
 ghost use Rattle.word.specs.Below.{Below};
 ghost use Rattle.put.specs.Put.{putPlaces};
 ghost use Rattle.channel.specs.Kinds.{patternOf};
-ghost use Rattle.channel.specs.Places.{dPlaces};
 ghost use Rattle.channel.specs.Control.{controlPlaces};
+ghost use Rattle.dbits.specs.Plan.{Made};
 ghost use Rattle.record.specs.Record.{dLength};
 ghost use Rattle.record.specs.Built.{fixedOctets, extendedPlaces, withParity, withC5, withXc6, withParities, octetsBy};
 use channel::Kind;
 use frame::places;
-
-// The fixed bits of the HR pattern, every other bit zero.
-const HR_FIXED: [u8; 20] = [
-    0,
-    128,
-    64,
-    128,
-    128,
-    128,
-    128,
-    128,
-    128,
-    128,
-    128,
-    128,
-    128,
-    128,
-    128,
-    128,
-    128,
-    128,
-    128,
-    128,
-];
-
-// The fixed bits of the Low pattern.
-const LOW_FIXED: [u8; 20] = [
-    0,
-    128,
-    128,
-    64,
-    128,
-    128,
-    128,
-    128,
-    128,
-    128,
-    128,
-    128,
-    128,
-    128,
-    128,
-    128,
-    128,
-    128,
-    128,
-    128,
-];
-
-// The fixed bits of the 6,70 pattern.
-const P670_FIXED: [u8; 20] = [
-    0,
-    128,
-    128,
-    128,
-    128,
-    0,
-    128,
-    0,
-    128,
-    0,
-    128,
-    0,
-    128,
-    0,
-    128,
-    0,
-    128,
-    0,
-    128,
-    0,
-];
-
-// The fixed bits of the 7,40 pattern.
-const P740_FIXED: [u8; 20] = [
-    32,
-    0,
-    128,
-    0,
-    0,
-    0,
-    0,
-    0,
-    0,
-    0,
-    0,
-    0,
-    0,
-    0,
-    0,
-    0,
-    0,
-    0,
-    0,
-    0,
-];
 
 // The fixed bits of a kind's pattern, every other bit zero.
 fn fixed(k: Kind) -> [u8; 20]
     ensures { λ r. ⌜ r ≡ fixedOctets (patternOf k) ⌝ }
 {
     match k {
-        Kind::Speech => HR_FIXED,
-        Kind::Data => HR_FIXED,
-        Kind::Om => HR_FIXED,
-        Kind::Configuration => HR_FIXED,
-        Kind::NoSpeech => LOW_FIXED,
-        Kind::Lower => LOW_FIXED,
-        Kind::Amr670 => P670_FIXED,
-        Kind::Amr740 => P740_FIXED,
+        Kind::Speech => places::HR_FIXED,
+        Kind::Data => places::HR_FIXED,
+        Kind::Om => places::HR_FIXED,
+        Kind::Configuration => places::HR_FIXED,
+        Kind::NoSpeech => places::LOW_FIXED,
+        Kind::Lower => places::LOW_FIXED,
+        Kind::Amr670 => places::P670_FIXED,
+        Kind::Amr740 => places::P740_FIXED,
     }
 }
 
@@ -157,17 +61,6 @@ fn with_extended(o: [u8; 20], k: Kind, extended: &[u8]) -> [u8; 20]
         Kind::Amr670 => o,
         Kind::Amr740 => o,
     }
-}
-
-// The D bits at their places.
-fn with_d(o: [u8; 20], k: Kind, d: &[u8]) -> [u8; 20]
-    requires { ⌜ dLength k ≤ length (now d) ⌝ }
-    ensures { λ r. ⌜ r ≡ putPlaces o (dPlaces k) (bitAt (now (d .entry))) 0 ⌝ }
-{
-    let places = dbits::table();
-    let from = dbits::d_from(k);
-    let to = from + dbits::d_count(k);
-    put::at_places(o, &places[from..to], d)
 }
 
 // The parity of the bits at some places, by the count of ones, at a place of its own.
@@ -211,14 +104,14 @@ fn with_parities(o: [u8; 20], k: Kind) -> [u8; 20]
     }
 }
 
-// The octets of a frame of a kind, by the bytes of its record.
-pub fn octets_by(part: &[u8], k: Kind) -> [u8; 20]
-    requires { ⌜ 12 + dLength k ≤ length (now part) ⌝ }
+// The octets of a frame of a kind, by the bytes of its record; D bits by the plan of the table.
+pub fn octets_by(part: &[u8], k: Kind, table: &[u8], plan: &[u32]) -> [u8; 20]
+    requires { ⌜ (12 + dLength k ≤ length (now part)) × Made (now table) (now plan) k ⌝ }
     ensures { λ r. ⌜ r ≡ octetsBy k (getD (now (part .entry)) 9 0) (getD (now (part .entry)) 10 0) (drop 12 (now (part .entry))) ⌝ }
 {
     let fixed = fixed(k);
     let coded = with_control(fixed, k, &part[9..10]);
     let extended = with_extended(coded, k, &part[10..11]);
-    let full = with_d(extended, k, &part[12..]);
+    let full = dbits::with_d(extended, k, &part[12..], table, plan);
     with_parities(full, k)
 }

@@ -1,4 +1,4 @@
--- What each bit is after bits were put, and a turn of the loops that put them.
+-- What each bit is after bits were put.
 -- Assumes nothing.
 use mathlib.Core.Path.{_≡_, refl, ap, sym, subst, _∙_}
 use mathlib.Core.Logic.{by-cases}
@@ -10,27 +10,13 @@ use native.Mathlib.Numerals.{add-one}
 use native.Mathlib.Decide.{ℕ-discrete, decLt}
 use native.Mathlib.Omega.{arith}
 use Rattle.word.specs.Below.{Below}
-use lib.Arith.{digits-lt}
 use lib.Dec.{eqb}
 use lib.ListN.{length, getD, drop, set, replicate, length-set, drop-of-length-le}
-use lib.Pow.{pow-pos, pow-add, shr-lt, shr-shr, high, low, field, mod-mod-pow}
-use lib.Seq.{drop-cons, getD-set-same, getD-set-other}
+use lib.Pow.{pow-pos, shr-shr, high, low, field, mod-mod-pow}
+use lib.Seq.{getD-set-same, getD-set-other}
 use Rattle.bits.specs.Bit.{bitAt, toN, count}
 use Rattle.bits.proofs.BitLaws.{toN-lt, toN-one}
 use Rattle.put.specs.Put.{putIn, putBit, putBits, putPlaces}
-
--- a byte stays a byte
-putIn-lt : (d k x b : ℕ) → x < 2 ^ (suc d + k) → b < 2 → putIn x k b < 2 ^ (suc d + k)
-putIn-lt d k x b hx hb =
-    let h1 = shr-lt (suc d) k hx in
-    let h2 : x / 2 ^ k / 2 * 2 + b < 2 ^ suc d = omega arith in
-    rw (pow-add 2 (suc d) k) (digits-lt h2 (mod-lt x (pow-pos k)))
-
-pub put-fits : (x k b w : ℕ) → k < 8 → x < 256 → b < 2 → w ≡ 2 ^ k → (x / w / 2 * 2 + b) * w + x % w < 256
-put-fits x k b w hk hx hb e =
-    let n : suc (7 - k) + k ≡ 8 = omega arith in
-    let p : 2 ^ (suc (7 - k) + k) ≡ 256 = ap (λ m. 2 ^ m) n in
-    rw e (rw p at (putIn-lt (7 - k) k x b (rw p hx) hb))
 
 module _ (x k b : ℕ) (hb : b < 2) where
   high-part : putIn x k b / 2 ^ k ≡ x / 2 ^ k / 2 * 2 + b
@@ -98,18 +84,6 @@ unfolding putBits
 length-puts [] s p = refl
 length-puts (b ∷ bs) s p = length-puts bs (putBit s p b) (p + 1) ∙ length-put s p b
 
--- a turn of a loop that puts bits, and its end
-module _ (s : List ℕ) (bs : List Bool) (p i : ℕ) where
-  pub put-turn : i < length bs → putBits s (p + i) (drop i bs) ≡ putBits (putBit s (p + i) (getD bs i false)) (p + (i + 1)) (drop (i + 1) bs)
-  unfolding putBits
-  put-turn h =
-      let e : p + (i + 1) ≡ p + i + 1 = omega arith in
-      rw (e, add-one i, drop-cons bs i false h)
-
-  pub put-end : length bs ≤ i → putBits s (p + i) (drop i bs) ≡ s
-  unfolding putBits
-  put-end h = rw (drop-of-length-le bs {i = i} h)
-
 -- bits put behind others
 pub puts-append : (bs cs : List Bool) (s : List ℕ) (p : ℕ) → putBits s p (bs ++ cs) ≡ putBits (putBits s p bs) (p + length bs) cs
 unfolding putBits
@@ -171,15 +145,35 @@ puts-past (b ∷ bs) s p r h l =
     past : (r p n : ℕ) → p + suc n ≤ r → r ≡ p → ⊥
     past r p n l e = omega arith
 
--- bits put at places: a turn of the loop, and its end
-module _ (s ps : List ℕ) (h : ℕ → Bool) (j : ℕ) where
-  pub places-turn : j < length ps → putPlaces s (drop j ps) h j ≡ putPlaces (putBit s (getD ps j 0) (h j)) (drop (j + 1) ps) h (j + 1)
-  unfolding putPlaces
-  places-turn l = rw (add-one j, drop-cons ps j 0 l)
+-- bits put at places: at some and then at others, by other numbers of the bits, and at neighbours
+pub places-append : (ps qs s : List ℕ) (h : ℕ → Bool) (i : ℕ) → putPlaces s (ps ++ qs) h i ≡ putPlaces (putPlaces s ps h i) qs h (i + length ps)
+unfolding putPlaces
+places-append [] qs s h i = rw (add-zero i)
+places-append (p ∷ ps) qs s h i =
+    let e : suc i + length ps ≡ i + suc (length ps) = omega arith in
+    places-append ps qs (putBit s p (h i)) h (suc i) ∙ ap (putPlaces (putPlaces (putBit s p (h i)) ps h (suc i)) qs h) e
 
-  pub places-end : length ps ≤ j → putPlaces s (drop j ps) h j ≡ s
-  unfolding putPlaces
-  places-end l = rw (drop-of-length-le ps {i = j} l)
+pub places-same : (ps s : List ℕ) (h g : ℕ → Bool) (i j : ℕ) → ((k : ℕ) → k < length ps → h (i + k) ≡ g (j + k)) → putPlaces s ps h i ≡ putPlaces s ps g j
+unfolding putPlaces
+places-same [] s h g i j same = refl
+places-same (p ∷ ps) s h g i j same =
+    let first : h i ≡ g j = ap h (sym (add-zero i)) ∙ same 0 (omega arith) ∙ ap g (add-zero j) in
+    rw first
+    (places-same ps (putBit s p (g j)) h g (suc i) (suc j) (λ k l.
+    let e : suc i + k ≡ i + suc k = omega arith in
+    let d : j + suc k ≡ suc j + k = omega arith in
+    ap h e ∙ same (suc k) (omega arith) ∙ ap g d))
+
+pub places-run : (c : ℕ) (s : List ℕ) (p : ℕ) (h : ℕ → Bool) (i : ℕ) → putPlaces s (count c p) h i ≡ putBits s p (map h (count c i))
+unfolding putPlaces putBits
+places-run zero s p h i = refl
+places-run (suc c) s p h i =
+    places-run c (putBit s p (h i)) (suc p) h (suc i)
+    ∙ ap (λ (q : ℕ). putBits (putBit s p (h i)) q (map h (count c (suc i)))) (sym (add-one p))
+
+pub places-end : (s ps : List ℕ) (h : ℕ → Bool) (j : ℕ) → length ps ≤ j → putPlaces s (drop j ps) h j ≡ s
+unfolding putPlaces
+places-end s ps h j l = rw (drop-of-length-le ps {i = j} l)
 
 pub length-places : (ps s : List ℕ) (h : ℕ → Bool) (i : ℕ) → length (putPlaces s ps h i) ≡ length s
 unfolding putPlaces

@@ -1,27 +1,25 @@
 -- The search for the end of a gap: what starts a run begins with nine fixed bits, and what is known of the places passed.
 -- Assumes nothing.
 use mathlib.Core.Path.{_≡_, refl, sym, _∙_, ap, subst}
-use mathlib.Core.Logic.{_⊎_, inl, inr, by-cases}
-use mathlib.Core.Bool.{Bool, true, false, not, _&&_, Bool·beq}
+use mathlib.Core.Logic.{inl, inr, by-cases}
+use mathlib.Core.Bool.{Bool, true, false, not, _&&_}
 use mathlib.Core.List.{List, [], _∷_}
-use Prim.Native.Nat.{ℕ, zero, suc, _+_, _-_, _≤_, _<_, zero-le}
+use Prim.Native.Nat.{ℕ, zero, suc, _+_, _*_, _≤_, _<_, zero-le}
 use native.Mathlib.Omega.{arith}
 use native.Mathlib.Decide.{ℕ-discrete, decLt}
-use borrow.Author.Tests.{not-true, lt-ltb, eq-eqb, ne-eqb}
-use lib.Dec.{eqb, ltb}
+use borrow.Author.Tests.{not-true, lt-ltb}
 use lib.ListN.{getD}
 use Rattle.reading.specs.Reading.{Starts}
-use Rattle.bits.specs.Bit.{count, bitAt}
-use Rattle.channel.specs.declared.Direction.{Direction}
+use Rattle.bits.specs.Bit.{count}
+use Rattle.bits.specs.Sync.{Synced, SyncFrom}
 use Rattle.channel.specs.declared.Pattern.{Pattern}
-use Rattle.channel.specs.declared.Pattern.the-variants.{Hr, Low, P670, P740}
 use Rattle.channel.specs.declared.Kind.{Kind}
 use Rattle.channel.specs.declared.Kind.the-variants.{Speech, Data, Om, Configuration, NoSpeech, Lower, Amr670, Amr740}
 use Rattle.channel.specs.Kinds.{patternOf, bodyOf}
 use Rattle.channel.specs.Places.{elem, zerosOf, onesOf}
-use Rattle.channel.specs.Coding.{Word, wordAt, all, fixed}
+use Rattle.channel.specs.Coding.{Word, all, fixed}
 use Rattle.channel.specs.Verdict.{starts}
-use Rattle.channel.specs.Frames.{Capture, captureOf, Frame, rules}
+use Rattle.channel.specs.Frames.{Capture, Frame, rules}
 use Rattle.channel.proofs.BoolLaws.{never, and-l, and-r, all-at, zero-at, one-at}
 use Rattle.channel.proofs.DLaws.{elem-count}
 use Rattle.channel.proofs.FrameLaws.{no-740, body-low}
@@ -30,11 +28,11 @@ use Rattle.item.specs.declared.Item.{Item}
 use Rattle.item.specs.Item.{frameOf}
 use Rattle.reader.specs.Seen.{Seen, Starting, GapEnd}
 
--- the nine fixed bits, in the order in which the search goes through them
+-- the fixed ones behind the first nine bits
 abbrev pub sync : List ℕ
-sync = 8 ∷ 7 ∷ 6 ∷ 5 ∷ 4 ∷ 3 ∷ 2 ∷ 1 ∷ 0 ∷ []
+sync = 32 ∷ 48 ∷ 64 ∷ 80 ∷ 96 ∷ 112 ∷ 128 ∷ 144 ∷ []
 
-pub sync-place : (j : ℕ) → j < 9 → getD sync j 0 ≡ 8 - j
+pub sync-place : (j : ℕ) → j < 8 → getD sync j 0 ≡ 16 * j + 32
 sync-place zero h = refl
 sync-place (suc zero) h = refl
 sync-place (suc (suc zero)) h = refl
@@ -43,12 +41,11 @@ sync-place (suc (suc (suc (suc zero)))) h = refl
 sync-place (suc (suc (suc (suc (suc zero))))) h = refl
 sync-place (suc (suc (suc (suc (suc (suc zero)))))) h = refl
 sync-place (suc (suc (suc (suc (suc (suc (suc zero))))))) h = refl
-sync-place (suc (suc (suc (suc (suc (suc (suc (suc zero)))))))) h = refl
-sync-place (suc (suc (suc (suc (suc (suc (suc (suc (suc j))))))))) h = absurd (omega arith)
+sync-place (suc (suc (suc (suc (suc (suc (suc (suc j)))))))) h = absurd (omega arith)
 
--- a pattern begins with eight zeros and a one
+-- a pattern begins with eight zeros and a one, and has those ones
 abbrev synced : Pattern → Bool
-synced t = all (λ i. elem i (zerosOf t)) (count 8 0) && elem 8 (onesOf t)
+synced t = all (λ i. elem i (zerosOf t)) (count 8 0) && (elem 8 (onesOf t) && all (λ i. elem i (onesOf t)) sync)
 
 starts-synced : (g : Word) (k : Kind) → starts g k ≡ true → synced (patternOf k) ≡ true
 starts-synced g Speech h = refl
@@ -59,6 +56,17 @@ starts-synced g NoSpeech h = refl
 starts-synced g Lower h = refl
 starts-synced g Amr670 h = refl
 starts-synced g Amr740 h = absurd (no-740 g h)
+
+in-sync : (j : ℕ) → j < 8 → elem (getD sync j 0) sync ≡ true
+in-sync zero h = refl
+in-sync (suc zero) h = refl
+in-sync (suc (suc zero)) h = refl
+in-sync (suc (suc (suc zero))) h = refl
+in-sync (suc (suc (suc (suc zero)))) h = refl
+in-sync (suc (suc (suc (suc (suc zero))))) h = refl
+in-sync (suc (suc (suc (suc (suc (suc zero)))))) h = refl
+in-sync (suc (suc (suc (suc (suc (suc (suc zero))))))) h = refl
+in-sync (suc (suc (suc (suc (suc (suc (suc (suc j)))))))) h = absurd (omega arith)
 
 module _ (w : Capture) (q : ℕ) where
   -- a frame that starts a run at q begins so
@@ -77,32 +85,30 @@ module _ (w : Capture) (q : ℕ) where
         sym (bit-of i (omega arith))
         ∙ zero-at (f .body) (patternOf (f .kind)) i (all-at (λ i. elem i (zerosOf (patternOf (f .kind)))) (count 8 0) i (elem-count i 8 0 zero-le (omega arith)) e) holds
 
-    ninth-one : w .bits (q + 8) ≡ true
-    ninth-one =
-        sym (bit-of 8 (omega arith))
-        ∙ one-at (f .body) (patternOf (f .kind)) 8 (and-r (all (λ i. elem i (zerosOf (patternOf (f .kind)))) (count 8 0)) (elem 8 (onesOf (patternOf (f .kind)))) (starts-synced (f .body) (f .kind) (h .allows))) holds
+    then-ones : elem 8 (onesOf (patternOf (f .kind))) && all (λ i. elem i (onesOf (patternOf (f .kind)))) sync ≡ true
+    then-ones = and-r (all (λ i. elem i (zerosOf (patternOf (f .kind)))) (count 8 0)) _ (starts-synced (f .body) (f .kind) (h .allows))
 
-    start-bit : (j : ℕ) → j < 9 → w .bits (q + getD sync j 0) ≡ eqb j 0
-    start-bit j l = rw (sync-place j l) (go j l)
-      where
-        go : (j : ℕ) → j < 9 → w .bits (q + (8 - j)) ≡ eqb j 0
-        go j l =
-            by-cases (ℕ-discrete j 0)
-            (λ (e : j ≡ 0). rw e ninth-one)
-            (λ (e : ¬ (j ≡ 0)). rw (ne-eqb j 0 e) (first-zero (8 - j) (omega arith)))
+    one-in : (i : ℕ) → i < 158 → elem i (onesOf (patternOf (f .kind))) ≡ true → w .bits (q + i) ≡ true
+    one-in i l e = sym (bit-of i l) ∙ one-at (f .body) (patternOf (f .kind)) i e holds
+
+    start-synced : Synced (w .bits) q
+    start-synced = record { zeros = first-zero; one = one-in 8 (omega arith) (and-l _ _ then-ones) }
+
+    start-bit : (j : ℕ) → j < 8 → w .bits (q + getD sync j 0) ≡ true
+    start-bit j l =
+        one-in (getD sync j 0) (omega (arith, sync-place j l))
+        (all-at (λ i. elem i (onesOf (patternOf (f .kind)))) sync (getD sync j 0) (in-sync j l) (and-r (elem 8 (onesOf (patternOf (f .kind)))) _ then-ones))
 
     start-fits : q + 158 ≤ w .n
     start-fits = omega (arith, h .stands .before, body-low (f .kind))
 
   -- so nothing starts where one of them differs
-  pub none-differs : (j : ℕ) (b : Bool) → j < 9 → b ≡ w .bits (q + getD sync j 0) → not (Bool·beq b (eqb j 0)) ≡ true → (f : Frame) → Starts rules w q f → ⊥
-  none-differs j b l r t f h =
-      let e : b ≡ eqb j 0 = r ∙ start-bit f h j l in
-      never (sym (same (eqb j 0)) ∙ ap (λ (c : Bool). Bool·beq c (eqb j 0)) (sym e) ∙ not-true (Bool·beq b (eqb j 0)) t)
-    where
-      same : (b : Bool) → Bool·beq b b ≡ true
-      same true = refl
-      same false = refl
+  pub none-differs : (j : ℕ) (b : Bool) → j < 8 → b ≡ w .bits (q + getD sync j 0) → not b ≡ true → (f : Frame) → Starts rules w q f → ⊥
+  none-differs j b l r t f h = never (sym (r ∙ start-bit f h j l) ∙ not-true b t)
+
+  -- nor where the first nine bits do not stand
+  pub none-synced : (Synced (w .bits) q → ⊥) → (f : Frame) → Starts rules w q f → ⊥
+  none-synced out f h = out (start-synced f h)
 
   -- nor where too few bits are left
   pub none-fits : w .n < q + 158 → (f : Frame) → Starts rules w q f → ⊥
@@ -127,6 +133,11 @@ module _ (w : Capture) (from q : ℕ) (passed : Passed w from q) where
   pub passed-more : ((f : Frame) → Starts rules w q f → ⊥) → Passed w from (q + 1)
   passed-more here i a b =
       by-cases (ℕ-discrete q i) (λ (e : q ≡ i). subst (λ (j : ℕ). (f : Frame) → Starts rules w j f → ⊥) e here) (λ (e : ¬ (q ≡ i)). passed i a (omega arith))
+
+  -- the places that were stepped over
+  pub passed-over : (last r : ℕ) → SyncFrom (w .bits) q last r → Passed w from r
+  passed-over last r h i a b =
+      by-cases (decLt i q) (λ (e : i < q). passed i a e) (λ (e : ¬ (i < q)). none-synced w i (h .none i (omega arith) b))
 
   -- the search ends where a frame starts a run
   pub gap-found : from ≤ q → q ≤ w .n → (b : Bool) → Starting w q b → b ≡ true → GapEnd w from q

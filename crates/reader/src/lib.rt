@@ -1,30 +1,44 @@
 // The item at a cursor: the frame that is due there, or the gap to the next place where a frame starts a run.
 ghost use mathlib.Core.Path.{_≡_};
-ghost use mathlib.Core.Bool.{Bool};
 ghost use Prim.Native.Nat.{_+_, _*_, _<_, _≤_};
 ghost use lib.ListN.{length};
 ghost use Rattle.reading.specs.Reading.{Obeys};
 ghost use Rattle.channel.specs.declared.Direction.{Direction as Way};
 ghost use Rattle.channel.specs.Frames.{captureOf, Tail, rules};
+ghost use Rattle.frame.specs.Kept.{Kept};
 ghost use Rattle.item.specs.Item.{itemOf, cursorOf};
-ghost use Rattle.reader.specs.Seen.{Seen, Starting, GapEnd};
+ghost use Rattle.reader.specs.Seen.{FirstZero, Seen, Starting, GapEnd};
 use channel::Direction;
 use frame::Found;
 use item::Cursor;
 use item::Item;
 
-// The length of the whole tail behind q: the ones up to the next zero or to n.
+// The first bit of a byte, from bit r on, that is zero; 8 for none. The ones of the byte are zeros of what is left of 255, whose leading zeros are counted.
+fn first_zero(x: u8, r: usize) -> usize
+    requires { ⌜ r < 8 ⌝ }
+    ensures { λ k. ⌜ FirstZero x r k ⌝ }
+{
+    let zeros = (255 - x as u32) % (256u32 >> r);
+    (u32::leading_zeros(zeros) - 24) as usize
+}
+
+// The length of the whole tail behind q: the ones up to the next zero or to n, byte by byte.
 fn tail_at(s: &[u8], n: usize, q: usize) -> usize
-    requires { ⌜ (q ≤ n) × (n ≤ 8 * length (now s)) ⌝ }
+    requires { ⌜ (q ≤ n) × (n ≤ 8 * length (now s)) × (length (now s) ≤ 65536) ⌝ }
     ensures { λ r. ⌜ ((d : Way) → Tail (captureOf (now (s .entry)) n d) q r) ⌝ }
 {
     let mut end = q;
     while end < n {
-        if bits::bit(s, end) {
-            end += 1;
-        } else {
-            return end - q;
+        let i = end / 8;
+        let k = first_zero(s[i], end % 8);
+        let stop = 8 * i + k;
+        if n <= stop {
+            return n - q;
         }
+        if k < 8 {
+            return stop - q;
+        }
+        end = stop;
     }
     end - q
 }
@@ -43,9 +57,9 @@ fn no_frame() -> Item
 }
 
 // The frame that is due at p in context x, if any. The tail is counted last, so that only the tail of a frame that is otherwise due is gone through.
-fn frame_at(s: &[u8], n: usize, d: Direction, p: usize, x: u8) -> Item
-    requires { ⌜ (p ≤ n) × (n ≤ 8 * length (now s)) × (length (now s) ≤ 65536) ⌝ }
-    ensures { λ r. ⌜ Seen (captureOf (now (s .entry)) n d) x p r ⌝ }
+fn frame_at(s: &[u8], n: usize, d: Direction, p: usize, x: u8, masks: &mut [u64]) -> Item
+    requires { ⌜ (p ≤ n) × (n ≤ 8 * length (now s)) × (length (now s) ≤ 65536) × Kept (now masks) ⌝ }
+    ensures { λ r. ⌜ Seen (captureOf (now (s .entry)) n d) x p r × Kept (now (masks .exit)) ⌝ }
 {
     let o = bits::octets(s, n, p);
     match frame::kind_of(o, d) {
@@ -54,7 +68,7 @@ fn frame_at(s: &[u8], n: usize, d: Direction, p: usize, x: u8) -> Item
             if n < behind {
                 return no_frame();
             }
-            let verdict = frame::verdict_in(o, k, x);
+            let verdict = frame::verdict_in(o, k, x, masks);
             if !kinds::allowed_in(k, x, verdict) {
                 return no_frame();
             }
@@ -75,11 +89,11 @@ fn frame_at(s: &[u8], n: usize, d: Direction, p: usize, x: u8) -> Item
 }
 
 // Whether a frame starts a run at q: judged in context 0.
-fn starts_at(s: &[u8], n: usize, d: Direction, q: usize) -> bool
-    requires { ⌜ (q ≤ n) × (n ≤ 8 * length (now s)) × (length (now s) ≤ 65536) ⌝ }
-    ensures { λ r. ⌜ Starting (captureOf (now (s .entry)) n d) q r ⌝ }
+fn starts_at(s: &[u8], n: usize, d: Direction, q: usize, masks: &mut [u64]) -> bool
+    requires { ⌜ (q ≤ n) × (n ≤ 8 * length (now s)) × (length (now s) ≤ 65536) × Kept (now masks) ⌝ }
+    ensures { λ r. ⌜ Starting (captureOf (now (s .entry)) n d) q r × Kept (now (masks .exit)) ⌝ }
 {
-    let i = frame_at(s, n, d, q, 0);
+    let i = frame_at(s, n, d, q, 0, masks);
     let found = i.found;
     match found {
         Found::Is(_) => true,
@@ -87,25 +101,30 @@ fn starts_at(s: &[u8], n: usize, d: Direction, q: usize) -> bool
     }
 }
 
-// The nine fixed bits that every pattern which can start a run begins with, in the order that fails soonest: the one, then the zeros from the back.
-const SYNC: [u8; 9] = [8, 7, 6, 5, 4, 3, 2, 1, 0];
+// The fixed ones that every pattern which can start a run has in common behind its first nine bits.
+const SYNC: [u8; 8] = [32, 48, 64, 80, 96, 112, 128, 144];
 
-// The first place from `from` on where a frame starts a run, or n. A place is left at the first fixed bit that differs.
-fn gap_end(s: &[u8], n: usize, d: Direction, from: usize) -> usize
-    requires { ⌜ (from ≤ n) × (n ≤ 8 * length (now s)) × (length (now s) ≤ 65536) ⌝ }
-    ensures { λ r. ⌜ GapEnd (captureOf (now (s .entry)) n d) from r ⌝ }
+// The first place from `from` on where a frame starts a run, or n. Places without eight zeros and a one are stepped over by the byte; any other is left at
+// the first fixed bit that differs.
+fn gap_end(s: &[u8], n: usize, d: Direction, from: usize, masks: &mut [u64]) -> usize
+    requires { ⌜ (from ≤ n) × (n ≤ 8 * length (now s)) × (length (now s) ≤ 65536) × Kept (now masks) ⌝ }
+    ensures { λ r. ⌜ GapEnd (captureOf (now (s .entry)) n d) from r × Kept (now (masks .exit)) ⌝ }
 {
     let sync = SYNC;
     let mut q = from;
     'places: while q + 158 <= n {
-        for j in 0..9 {
+        q = bits::sync_from(s, q, n - 158);
+        if n < q + 158 {
+            return n;
+        }
+        for j in 0..8 {
             let place = q + sync[j] as usize;
-            if bits::bit(s, place) != (j == 0) {
+            if !bits::bit(s, place) {
                 q += 1;
                 continue 'places;
             }
         }
-        if starts_at(s, n, d, q) {
+        if starts_at(s, n, d, q, masks) {
             return q;
         }
         q += 1; // no frame starts a run here
@@ -114,18 +133,18 @@ fn gap_end(s: &[u8], n: usize, d: Direction, from: usize) -> usize
 }
 
 // The item at a cursor before n: the frame that is due there, else the gap to the next place where a frame starts a run, or to n.
-pub fn item_at(s: &[u8], n: usize, d: Direction, c: Cursor) -> Item
-    requires { ⌜ (c .position < n) × (n ≤ 8 * length (now s)) × (length (now s) ≤ 65536) ⌝ }
-    ensures { λ r. ⌜ Obeys rules (captureOf (now (s .entry)) n d) (cursorOf c) (itemOf r) ⌝ }
+pub fn item_at(s: &[u8], n: usize, d: Direction, c: Cursor, masks: &mut [u64]) -> Item
+    requires { ⌜ (c .position < n) × (n ≤ 8 * length (now s)) × (length (now s) ≤ 65536) × Kept (now masks) ⌝ }
+    ensures { λ r. ⌜ Obeys rules (captureOf (now (s .entry)) n d) (cursorOf c) (itemOf r) × Kept (now (masks .exit)) ⌝ }
 {
     let p = c.position;
     let x = c.context;
-    let i = frame_at(s, n, d, p, x);
+    let i = frame_at(s, n, d, p, x, masks);
     let found = i.found;
     match found {
         Found::Is(_) => i,
         Found::Nothing => {
-            let end = gap_end(s, n, d, p + 1);
+            let end = gap_end(s, n, d, p + 1, masks);
             Item {
                 found: Found::Nothing,
                 octets: [0u8; 20],

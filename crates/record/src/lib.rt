@@ -10,6 +10,9 @@ ghost use lib.ListN.{length, take, drop};
 ghost use Rattle.bits.specs.Bit.{bitAt};
 ghost use Rattle.channel.specs.Control.{control, extended};
 ghost use Rattle.dbits.specs.DBits.{dBytes};
+ghost use Rattle.channel.specs.declared.Kind.{Kind};
+ghost use Rattle.frame.specs.declared.coding.Found.the-variants.{Is};
+ghost use Rattle.dbits.specs.Plan.{Made, Plans};
 ghost use Rattle.item.specs.Item.{itemOf};
 ghost use Rattle.record.specs.Record.{wide, numberAt, dLength, sizeOf, recordOf};
 ghost use Rattle.record.specs.Size.{sizeBy};
@@ -80,11 +83,11 @@ fn put_front(out: &mut [u8], kind: u8, start: usize, span: usize)
 }
 
 // The D bits of a frame behind the twelve bytes that stand at the front of a lent part.
-fn put_d(out: &mut [u8], o: [u8; 20], k: Kind)
-    requires { ⌜ 12 + dLength k ≤ length (now out) ⌝ }
+fn put_d(out: &mut [u8], o: [u8; 20], k: Kind, table: &[u8], plan: &[u32])
+    requires { ⌜ (12 + dLength k ≤ length (now out)) × Made (now table) (now plan) k ⌝ }
     ensures { λ _. ⌜ now (out .exit) ≡ take 12 (now (out .entry)) ++ take (dLength k) (dBytes (bitAt o) k) ++ drop (12 + dLength k) (now (out .entry)) ⌝ }
 {
-    let bytes = dbits::d_bytes(o, k);
+    let bytes = dbits::d_bytes(o, k, table, plan);
     let n = d_length(k);
     for j in 0..n {
         out[12 + j] = bytes[j];
@@ -106,9 +109,20 @@ pub fn number_at(bytes: &[u8], at: usize) -> u64
     joined(bytes[at], bytes[at + 1], bytes[at + 2], bytes[at + 3])
 }
 
+// Makes the plan that the record of an item found wants.
+pub fn ready(plan: &mut [u32], table: &[u8], found: Found)
+    requires { ⌜ Plans (now table) (now plan) ⌝ }
+    ensures { λ _. ⌜ Plans (now (table .entry)) (now (plan .exit)) × ((k : Kind) → found ≡ Is k → Made (now (table .entry)) (now (plan .exit)) k) ⌝ }
+{
+    match found {
+        Found::Is(k) => dbits::ready(plan, table, k),
+        Found::Nothing => {}
+    }
+}
+
 // The record of an item, at the front of a lent part; the rest of the part is unchanged.
-pub fn put(out: &mut [u8], i: Item)
-    requires { ⌜ sizeOf (itemOf i) ≤ length (now out) ⌝ }
+pub fn put(out: &mut [u8], i: Item, table: &[u8], plan: &[u32])
+    requires { ⌜ (sizeOf (itemOf i) ≤ length (now out)) × ((k : Kind) → i .found ≡ Is k → Made (now table) (now plan) k) ⌝ }
     ensures { λ _. ⌜ now (out .exit) ≡ recordOf (itemOf i) ++ drop (sizeOf (itemOf i)) (now (out .entry)) ⌝ }
 {
     let start = i.start;
@@ -122,7 +136,7 @@ pub fn put(out: &mut [u8], i: Item)
             out[9] = control_byte(octets, k);
             out[10] = extended_byte(octets, k);
             out[11] = verdict;
-            put_d(out, octets, k);
+            put_d(out, octets, k, table, plan);
         }
         Found::Nothing => {
             put_front(out, 0, start, span);

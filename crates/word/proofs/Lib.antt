@@ -1,2 +1,3 @@
 pub mod WordLaws
-pub mod CrcLaws
+pub mod MaskLaws
+pub mod FieldLaws

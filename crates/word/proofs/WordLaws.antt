@@ -1,13 +1,12 @@
 -- A turn of each loop over a list of places: what is left of the list, from what is held so far. A packed field: its ones, and the byte that it tops.
 -- Assumes nothing.
-use mathlib.Core.Path.{_≡_, refl, sym, _∙_, ap}
-use mathlib.Core.Bool.{Bool, true, false, not, _&&_, Bool·beq}
+use mathlib.Core.Path.{_≡_, refl, sym, _∙_}
+use mathlib.Core.Bool.{Bool, true, false}
 use mathlib.Core.List.{List, [], _∷_, _++_}
 use Prim.Native.Nat.{ℕ, zero, suc, _+_, _*_, _-_, _/_, _%_, _^_, _<_, _≤_}
 use native.Mathlib.Omega.{arith}
 use native.Mathlib.Nat.{zero-add, add-zero, sub-zero, pow-suc, mul-assoc, mul-comm, mod-eq-of-lt, not-suc-le-zero, le-of-suc-le-suc}
 use native.Mathlib.Numerals.{add-one}
-use borrow.Author.Tests.{not-true, not-false}
 use lib.Count as Count
 use lib.Dec.{eqb, lit<}
 use lib.ListN.{length, getD, take, drop, replicate, length-map, drop-of-length-le}
@@ -15,35 +14,16 @@ use lib.Pow.{shl-lt}
 use lib.Seq.{drop-cons}
 use Rattle.bits.specs.Bit.{toN, numberFrom, number}
 use Rattle.bits.proofs.BitLaws.{toN-lt}
-use Rattle.channel.specs.Coding.{Word, bitsAt, all, ones, odd}
+use Rattle.channel.specs.Coding.{Word, bitsAt, ones, odd}
 use Rattle.channel.specs.Control.{fromTop}
 
 module _ (ps : List ℕ) (j : ℕ) where
-  -- a test over the places
-  pub all-turn : (t : ℕ → Bool) → j < length ps → all t (drop j ps) ≡ t (getD ps j 0) && all t (drop (j + 1) ps)
-  all-turn t h = rw (add-one, drop-cons ps j 0 h)
-
-  pub all-end : (t : ℕ → Bool) → length ps ≤ j → all t (drop j ps) ≡ true
-  all-end t h = rw (drop-of-length-le ps h)
-
   -- a field packed of the places
   pub number-turn : (g : Word) (a : ℕ) → j < length ps → numberFrom a (bitsAt g (drop j ps)) ≡ numberFrom (2 * a + toN (g (getD ps j 0))) (bitsAt g (drop (j + 1) ps))
   number-turn g a h = rw (add-one, drop-cons ps j 0 h)
 
   pub number-end : (g : Word) (a : ℕ) → length ps ≤ j → numberFrom a (bitsAt g (drop j ps)) ≡ a
   number-end g a h = rw (drop-of-length-le ps h)
-
--- what a bit that was compared with a value says of the test over all the places
-module _ (g : Word) (value : Bool) (ps : List ℕ) (j : ℕ) (b : Bool) (within : j < length ps) (so-far : all (λ p. Bool·beq (g p) value) ps ≡ all (λ p. Bool·beq (g p) value) (drop j ps)) (read : b ≡ g (getD ps j 0)) where
-  pub all-stops : not (Bool·beq b value) ≡ true → false ≡ all (λ p. Bool·beq (g p) value) ps
-  all-stops h =
-      let e : Bool·beq (g (getD ps j 0)) value ≡ false = rw read at (not-true (Bool·beq b value) h) in
-      sym (so-far ∙ all-turn ps j (λ p. Bool·beq (g p) value) within ∙ ap (λ (t : Bool). t && all (λ p. Bool·beq (g p) value) (drop (j + 1) ps)) e)
-
-  pub all-goes : not (Bool·beq b value) ≡ false → all (λ p. Bool·beq (g p) value) ps ≡ all (λ p. Bool·beq (g p) value) (drop (j + 1) ps)
-  all-goes h =
-      let e : Bool·beq (g (getD ps j 0)) value ≡ true = rw read at (not-false (Bool·beq b value) h) in
-      so-far ∙ all-turn ps j (λ p. Bool·beq (g p) value) within ∙ ap (λ (t : Bool). t && all (λ p. Bool·beq (g p) value) (drop (j + 1) ps)) e
 
 -- a bit read and put behind the field
 pub number-goes : (g : Word) (ps : List ℕ) (j field : ℕ) (b : Bool) (next : ℕ) → j < length ps → number (bitsAt g ps) ≡ numberFrom field (bitsAt g (drop j ps)) → b ≡ g (getD ps j 0) → next ≡ 2 * field + toN b

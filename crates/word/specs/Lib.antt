@@ -1,3 +1,2 @@
 pub mod Below
-pub mod Covered
-pub mod Held
+pub mod Words

@@ -1,17 +1,16 @@
-// A frame's bits at lent places: one loop each for fixed bits, for a packed field and for a CRC, whatever the list and its length.
+// A frame's bits at lent places as a packed field or a byte, whatever the list; and its octets as three words, whose fixed bits are tested at once.
 ghost use mathlib.Core.Path.{_≡_};
-ghost use mathlib.Core.Bool.{Bool·beq, true};
-ghost use Prim.Native.Nat.{_+_, _*_, _-_, _%_, _^_, _≤_, _<_};
+ghost use mathlib.Core.Bool.{not, _&&_};
+ghost use mathlib.Core.List.{List};
+ghost use Prim.Native.Nat.{ℕ, _+_, _*_, _-_, _%_, _^_, _≤_, _<_};
 ghost use lib.Count.{ones};
 ghost use lib.Dec.{eqb};
 ghost use lib.ListN.{length, getD};
 ghost use Rattle.bits.specs.Bit.{bitAt, toN, number, count};
-ghost use Rattle.channel.specs.Coding.{bitsAt, all};
+ghost use Rattle.channel.specs.Coding.{Word, bitsAt, all};
 ghost use Rattle.channel.specs.Control.{fromTop};
-ghost use Rattle.channel.specs.Crc.{push, remFrom, right};
 ghost use Rattle.word.specs.Below.{Below};
-ghost use Rattle.word.specs.Covered.{Covered, Seven};
-ghost use Rattle.word.specs.Held.{three, sevenOf};
+ghost use Rattle.word.specs.Words.{held, Holds, FixedBy};
 
 // The bit at entry j of the places. The octets are lent here: by value they would be copied for each bit.
 fn bit_at(o: &[u8], places: &[u8], j: usize) -> bool
@@ -20,19 +19,6 @@ fn bit_at(o: &[u8], places: &[u8], j: usize) -> bool
 {
     let p = places[j] as usize;
     bits::bit(o, p)
-}
-
-// Whether the bits at all the places have the value; the first that differs ends it.
-pub fn all_are(o: [u8; 20], places: &[u8], value: bool) -> bool
-    requires { ⌜ Below 160 (now places) ⌝ }
-    ensures { λ r. ⌜ r ≡ all (λ p. Bool·beq (bitAt o p) value) (now (places .entry)) ⌝ }
-{
-    for j in 0..places.len() {
-        if bit_at(&o, places, j) != value {
-            return false;
-        }
-    }
-    true
 }
 
 // The bits at the places as a number, the first on top; the octets are lent.
@@ -95,79 +81,66 @@ pub fn odd_ones(field: u32) -> bool
     u32::count_ones(field) % 2 == 1
 }
 
-// What four bits leave by X^3 + X + 1, the first on top: X^3 leaves X + 1.
-const FOUR: [usize; 16] = [0, 1, 2, 3, 4, 5, 6, 7, 3, 2, 1, 0, 7, 6, 5, 4];
-
-// What three bits leave that four more follow: X^6 leaves X^2 + 1, X^5 leaves X^2 + X + 1, X^4 leaves X^2 + X.
-const THREE_ABOVE: [usize; 8] = [0, 6, 7, 1, 5, 3, 2, 4];
-
-// A bit as a number.
-fn digit(b: bool) -> usize
-    ensures { λ r. ⌜ (r ≡ toN b) × (r < 2) ⌝ }
-{
-    if b { 1 } else { 0 }
+// A frame's octets as three numbers, the first octet on top: 1 to 8, 9 to 16, 17 to 20.
+pub struct Words {
+    pub a: u64,
+    pub b: u64,
+    pub c: u64,
 }
 
-// The remainder once a bit is put behind what left r.
-fn with_one(r: usize, b: bool) -> usize
-    requires { ⌜ r < 8 ⌝ }
-    ensures { λ s. ⌜ (s < 8) × (three s ≡ push (three r) b) ⌝ }
+// Four octets as one number.
+fn four(a: u8, b: u8, c: u8, d: u8) -> u32
+    ensures { λ r. ⌜ r ≡ ((a * 256 + b) * 256 + c) * 256 + d ⌝ }
 {
-    let last = digit(b);
-    FOUR[2 * r + last]
+    ((a as u32 * 256 + b as u32) * 256 + c as u32) * 256 + d as u32
 }
 
-// The remainder once seven bits are put behind what left r: X^7 leaves 1, so what the seven leave by themselves is added to r.
-fn with_seven(r: usize, v: usize) -> usize
-    requires { ⌜ (r < 8) × (v < 128) ⌝ }
-    ensures { λ s. ⌜ (s < 8) × (three s ≡ remFrom (three r) (sevenOf v)) ⌝ }
+// Eight octets as one number, from two of four.
+fn eight(high: u32, low: u32) -> u64
+    ensures { λ r. ⌜ r ≡ high * 4294967296 + low ⌝ }
 {
-    let above = THREE_ABOVE[v / 16];
-    let four = FOUR[v % 16];
-    r ^ above ^ four
+    high as u64 * 4294967296 + low as u64
 }
 
-// Whether the seven places from entry j on end an octet. Of a covered list the first and the last tell.
-fn seven_at(places: &[u8], j: usize) -> bool
-    requires { ⌜ Covered (now places) × (j < length (now places)) ⌝ }
-    ensures { λ r. ⌜ (r ≡ true → Seven (now (places .entry)) j) ⌝ }
+// The octets of a frame as three numbers.
+pub fn words_of(o: &[u8]) -> Words
+    requires { ⌜ length (now o) ≡ 20 ⌝ }
+    ensures { λ r. ⌜ Holds (bitAt (now (o .entry))) (r .a) (r .b) (r .c) ⌝ }
 {
-    let p = places[j];
-    if p % 8 != 1 {
-        return false;
+    let a = eight(four(o[0], o[1], o[2], o[3]), four(o[4], o[5], o[6], o[7]));
+    let b = eight(
+        four(o[8], o[9], o[10], o[11]),
+        four(o[12], o[13], o[14], o[15]),
+    );
+    let c = four(o[16], o[17], o[18], o[19]);
+    Words {
+        a: a,
+        b: b,
+        c: c as u64,
     }
-    if places.len() <= j + 6 {
-        return false;
-    }
-    places[j + 6] == p + 6
 }
 
-// The bits at the seven places from entry j on, which end an octet, as a number.
-fn seven_bits(o: &[u8], places: &[u8], j: usize) -> usize
-    requires { ⌜ (length (now o) ≡ 20) × Below 160 (now places) × (j < length (now places)) × (getD (now places) j 0 % 8 ≡ 1) ⌝ }
-    ensures { λ r. ⌜ (r < 128) × (sevenOf r ≡ bitsAt (bitAt (now (o .entry))) (count 7 (getD (now (places .entry)) j 0))) ⌝ }
+// Both of two tests.
+fn both(a: bool, b: bool) -> bool
+    ensures { λ r. ⌜ r ≡ a && b ⌝ }
 {
-    let p = places[j] as usize;
-    let v = o[p / 8] % 128;
-    v as usize
+    if a { b } else { false }
 }
 
-// Whether a CRC is right: the bits at the places, the CRC's own last, divided by X^3 + X + 1 leave X^2 + X + 1. r holds the remainder so far.
-// Where the places have the seven bits that end an octet, those are taken at once: a speech frame has six such octets.
-pub fn crc_right(o: [u8; 20], places: &[u8]) -> bool
-    requires { ⌜ Covered (now places) ⌝ }
-    ensures { λ r. ⌜ r ≡ right (bitAt o) (now (places .entry)) ⌝ }
+// The c bits from place p on of a frame's first word, as a number.
+pub fn field_of(a: u64, p: usize, c: usize) -> u32
+    requires { ⌜ (0 < c) × (c ≤ 8) × (p + c ≤ 64) ⌝ }
+    ensures { λ r. ⌜ (r < 2 ^ c) × ((g : Word) → a ≡ held g 64 0 → r ≡ number (bitsAt g (count c p))) ⌝ }
 {
-    let mut r: usize = 0;
-    let mut j: usize = 0;
-    while j < places.len() {
-        if seven_at(places, j) {
-            r = with_seven(r, seven_bits(&o, places, j));
-            j = j + 7;
-        } else {
-            r = with_one(r, bit_at(&o, places, j));
-            j = j + 1;
-        }
-    }
-    r == 7
+    ((a >> (64 - p - c)) % (1 << c)) as u32
+}
+
+// Whether a frame's words have the fixed bits of a pattern, all of them at once, by the words of two: which bits are fixed, and the fixed ones.
+pub fn fixed(w: Words, mask: Words, value: Words) -> bool
+    ensures { λ r. ⌜ ((o zeros ons fixed ones : List ℕ) → Holds (bitAt o) (w .a) (w .b) (w .c) → Holds (bitAt fixed) (mask .a) (mask .b) (mask .c) → Holds (bitAt ones) (value .a) (value .b) (value .c) → FixedBy zeros ons fixed ones → r ≡ all (λ i. not (bitAt o i)) zeros && all (bitAt o) ons) ⌝ }
+{
+    let a = w.a & mask.a == value.a;
+    let b = w.b & mask.b == value.b;
+    let c = w.c & mask.c == value.c;
+    both(a, both(b, c))
 }

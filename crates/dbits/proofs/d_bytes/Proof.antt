@@ -1,24 +1,19 @@
--- `dbits::d_bytes` meets its contract: the part lent is the list of the kind's D places.
+-- `dbits::d_bytes` meets its contract: the kind's part of the table, by its plan.
 -- Assumes nothing.
-use mathlib.Core.Path.{_≡_, _∙_, ap}
+use mathlib.Core.Path.{_∙_, ap}
 use mathlib.Core.List.{List, map}
 use Prim.Native.Nat.{ℕ, _*_}
 use native.Mathlib.Omega.{arith}
-use borrow.Author.Needs.{needs}
 use lib.ListN.{length, drop}
 use Rattle.bits.specs.Bit.{bitAt, count}
 use Rattle.channel.specs.Coding.{bitsAt}
 use Rattle.channel.specs.Control.{fromTop}
 use Rattle.dbits.specs.DBits.{dBytes}
-use Rattle.dbits.proofs.DBitLaws.{part-end, part-is, places-below, d-length, d-count-le}
-use Rattle.channel.specs.Places.{dPlaces}
-use Rattle.channel.proofs.DLaws.{d-rule}
-use Rattle.dbits.proofs.RunLaws.{rises-rising}
+use Rattle.dbits.proofs.DBitLaws.{part-end, part-is, places-below, d-length, d-count-le, all-length}
+use Rattle.dbits.proofs.PlanLaws.{kind-le}
+use borrow.Author.Needs.{needs}
 use Rattle.dbits.proofs.d_bytes.Statement.{statement}
 use Rattle.dbits.proofs.d_bytes.Tie as tie
-
-table-requires : tie.Need-table-requires
-table-requires c κs = search needs
 
 d-from-requires : tie.Need-d-from-requires
 d-from-requires c κs = search needs
@@ -27,7 +22,10 @@ d-count-requires : tie.Need-d-count-requires
 d-count-requires c κs = search needs
 
 add-to : tie.Need-add-to
-add-to c = omega (arith, part-end (c .before .before .before .args .k))
+add-to c = omega (arith, c .before .d-from .ensures, c .d-count .ensures, part-end (c .before .before .before .before .args .k))
+
+slice-aggregate-part-bytes : tie.Need-slice-aggregate-part-bytes
+slice-aggregate-part-bytes c = search needs
 
 sub-part-bytes : tie.Need-sub-part-bytes
 sub-part-bytes c = search needs
@@ -36,41 +34,35 @@ part-part-bytes-start : tie.Need-part-part-bytes-start
 part-part-bytes-start c = search needs
 
 part-part-bytes-end : tie.Need-part-part-bytes-end
-part-part-bytes-end c =
-    let l : length (c .before .before .before .table .result) ≡ 1022 = search needs in
-    omega (arith, l, part-end (c .before .before .before .before .args .k))
+part-part-bytes-end c = omega (arith, c .before .before .d-from .ensures, c .before .d-count .ensures, part-end (c .before .before .before .before .before .args .k), ap length (c .before .before .before .before .before .pre .table), all-length)
+
+plan-from-requires : tie.Need-plan-from-requires
+plan-from-requires c κs = search needs
 
 part-bytes-requires : tie.Need-part-bytes-requires
 part-bytes-requires c κs =
-    let start = c .before .before .before .before .before in
-    let t = c .before .before .before .before .table in
-    let f = c .before .before .before .d-from in
-    let n = c .before .before .d-count in
-    let k = start .args .k in
-    rw (part-is k (t .result) (f .result) (n .result) (t .ensures) (f .ensures) (n .ensures))
-    (places-below k, rw (d-length k) (d-count-le k), rises-rising 0 (dPlaces k) (d-rule k .rise))
+    let a = c .before .before .before .before .before .before .before .args in
+    let p = c .before .before .before .before .before .before .before .pre in
+    let e = part-is (a .k) (a .table .now) (c .before .before .before .before .d-from .result) (c .before .before .before .d-count .result) (p .table) (c .before .before .before .before .d-from .ensures) (c .before .before .before .d-count .ensures) in
+    (search needs, rw e (places-below (a .k)), rw e (omega (arith, d-length (a .k), d-count-le (a .k))), omega (arith, c .plan-from .ensures, kind-le (a .k)), omega (arith, c .plan-from .ensures, kind-le (a .k), p .size), rw (e, c .plan-from .ensures) (p .made))
 
 returns : tie.Need-returns
 unfolding dBytes
 returns c =
-    let a = c .before .before .before .before .before .before .args in
-    let t = c .before .before .before .before .before .table in
-    let f = c .before .before .before .before .d-from in
-    let n = c .before .before .before .d-count in
-    c .part-bytes .ensures
-    ∙ ap (λ (ps : List ℕ). map (λ j. fromTop (drop (8 * j) (bitsAt (bitAt (a .o)) ps))) (count 19 0))
-    (part-is (a .k) (t .result) (f .result) (n .result) (t .ensures) (f .ensures) (n .ensures))
+    let a = c .before .before .before .before .before .before .before .before .args in
+    c .part-bytes .ensures ∙ ap (λ (ps : List ℕ). map (λ j. fromTop (drop (8 * j) (bitsAt (bitAt (a .t1)) ps))) (count 19 0)) (part-is (a .k) (a .table .now) (c .before .before .before .before .before .d-from .result) (c .before .before .before .before .d-count .result) (c .before .before .before .before .before .before .before .before .pre .table) (c .before .before .before .before .before .d-from .ensures) (c .before .before .before .before .d-count .ensures))
 
 pub d-bytes-spec : {M : Type 1} → statement M
 d-bytes-spec =
     tie.close
     (tie.spec
-    table-requires
     d-from-requires
     d-count-requires
     add-to
+    slice-aggregate-part-bytes
     sub-part-bytes
     part-part-bytes-start
     part-part-bytes-end
+    plan-from-requires
     part-bytes-requires
     returns)

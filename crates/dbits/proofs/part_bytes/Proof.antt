@@ -1,135 +1,78 @@
--- `dbits::part_bytes` meets its contract. The loop's invariant: the first j bytes are filled, the others are still zero.
+-- `dbits::part_bytes` meets its contract: by the entries, but for the byte that has none, or all bit by bit.
 -- Assumes nothing.
-use mathlib.Core.Path.{_≡_, refl, _∙_}
-use mathlib.Core.List.{map, _++_}
-use Prim.Native.Nat.{_+_, _*_, _-_, _/_, _≤_}
+use mathlib.Core.Path.{refl, _∙_, ap}
+use mathlib.Core.List.{List}
+use Prim.Native.Nat.{ℕ, _+_, _-_, _/_}
 use native.Mathlib.Omega.{arith}
-use native.Mathlib.Nat.{le-of-eq}
-use lib.ListN.{length, take, drop, replicate, length-map, length-take, length-drop}
-use lib.Seq.{length-take-le}
-use Rattle.bits.specs.Bit.{bitAt, count}
-use Rattle.bits.proofs.CountLaws.{fill-step}
-use Rattle.channel.specs.Coding.{bitsAt}
-use Rattle.channel.specs.Control.{fromTop}
-use Rattle.dbits.proofs.DBitLaws.{byte-of, rest-of, part-below, bytes-rest}
-use Rattle.dbits.proofs.RunLaws.{part-rises}
+use lib.ListN.{length, getD, set}
+use Rattle.dbits.proofs.PlanLaws.{all-quick, one-slow}
 use borrow.Author.Needs.{needs}
 use Rattle.dbits.proofs.part_bytes.Statement.{statement}
 use Rattle.dbits.proofs.part_bytes.Tie as tie
 
-abbrev Inv-loop : tie.InvT-loop
-Inv-loop part o out₀ full j₀ out j = (j ≤ full) × (out ≡ map (λ i. fromTop (drop (8 * i) (bitsAt (bitAt o) part))) (count j 0) ++ drop j (replicate 19 0))
+add-n : tie.Need-add-n
+add-n c = search needs
 
-abbrev μ-loop : tie.MeasureT-loop
-μ-loop part o out₀ full j₀ out j = full - j
+add-odd : tie.Need-add-odd
+add-odd c = search needs
 
-loop-holds : tie.Need-loop-holds Inv-loop μ-loop
-loop-holds c = (omega arith, refl)
+mul-odd : tie.Need-mul-odd
+mul-odd c = search needs
 
-slice-aggregate-eight : tie.Need-slice-aggregate-eight Inv-loop μ-loop
-slice-aggregate-eight c = search needs
+shared-slice-read-odd : tie.Need-shared-slice-read-odd
+shared-slice-read-odd c = search needs
 
-mul-eight : tie.Need-mul-eight Inv-loop μ-loop
-mul-eight c = omega (arith, c .before .before .before .before .pre .1)
+cast-odd : tie.Need-cast-odd
+cast-odd c = omega (arith, c .shared-slice-known4 .given (c .before .before .before .before .args .base + 57))
 
-mul-eight-2 : tie.Need-mul-eight-2 Inv-loop μ-loop
-mul-eight-2 c = omega (arith, c .before .before .before .before .pre .1)
+add-if1 : tie.Need-add-if1
+add-if1 c = search needs
 
-add-eight : tie.Need-add-eight Inv-loop μ-loop
-add-eight c = omega (arith, c .before .before .before .before .pre .1)
+slow-bytes-requires : tie.Need-slow-bytes-requires
+slow-bytes-requires c κs = search needs
 
-sub-eight : tie.Need-sub-eight Inv-loop μ-loop
-sub-eight c = search needs
+returns : tie.Need-returns
+returns c = search needs
 
-part-eight-start : tie.Need-part-eight-start Inv-loop μ-loop
-part-eight-start c = search needs
+quick-bytes-requires : tie.Need-quick-bytes-requires
+quick-bytes-requires c κs =
+    let r = c .before .before .before .before .before .pre in
+    (r .0, r .4, r .3, omega (arith, r .2), λ j l. let e = r .5 .entries j l in (e .octet, e .first-small, e .second-small))
 
-part-eight-end : tie.Need-part-eight-end Inv-loop μ-loop
-part-eight-end c = omega arith
+returns-2 : tie.Need-returns-2
+returns-2 c =
+    let a = c .before .before .before .before .before .before .before .args in
+    let r = c .before .before .before .before .before .before .before .pre in
+    c .before .quick-bytes .ensures ∙ all-quick (a .part .now) (a .plan .now) (a .o .now) (a .base) ((length (a .part .now) + 7) / 8) (r .5) refl (r .2) (omega arith) (c .if2 .taken)
 
-eight-requires : tie.Need-eight-requires Inv-loop μ-loop
-eight-requires c κs =
-    let n = 8 * c .before .before .before .loop .j + 8 - 8 * c .before .before .before .loop .j in
-    let l : length (take n (drop (8 * c .before .before .before .loop .j) (c .before .before .before .before .before .args .part .now))) ≡ 8 = length-take-le n (drop (8 * c .before .before .before .loop .j) (c .before .before .before .before .before .args .part .now)) (omega (arith, length-drop (8 * c .before .before .before .loop .j) (c .before .before .before .before .before .args .part .now))) ∙ omega arith in
-    (search needs, part-below (c .before .before .before .before .before .args .part .now) (8 * c .before .before .before .loop .j) n (c .before .before .before .before .before .pre .0), l, part-rises (c .before .before .before .before .before .args .part .now) (8 * c .before .before .before .loop .j) n (c .before .before .before .before .before .pre .2))
+byte-at-requires : tie.Need-byte-at-requires
+byte-at-requires c κs = search needs
 
-array-write-out : tie.Need-array-write-out Inv-loop μ-loop
+array-write-out : tie.Need-array-write-out
 array-write-out c = search needs
 
-add-j : tie.Need-add-j Inv-loop μ-loop
-add-j c = search needs
-
-loop-less : tie.Need-loop-less Inv-loop μ-loop
-loop-less c = search needs
-
-loop-again : tie.Need-loop-again Inv-loop μ-loop
-loop-again c = (omega arith, fill-step (λ j. fromTop (drop (8 * j) (bitsAt (bitAt (c .before .before .before .before .before .before .args .t1)) (c .before .before .before .before .before .before .args .part .now)))) (c .before .before .before .before .loop .j) (replicate 19 0) (c .before .before .before .before .loop .out) (c .eight .result) (c .before .before .before .before .loop .inv .1) (c .eight .ensures ∙ byte-of (bitAt (c .before .before .before .before .before .before .args .t1)) (c .before .before .before .before .before .before .args .part .now) (c .before .before .before .before .loop .j) (8 * c .before .before .before .before .loop .j + 8 - 8 * c .before .before .before .before .loop .j) (omega arith)) (omega arith))
-
-mul-if1 : tie.Need-mul-if1 Inv-loop μ-loop
-mul-if1 c = search needs
-
-returns : tie.Need-returns Inv-loop μ-loop
-returns c = c .before .before .loop .inv .1 ∙ bytes-rest (bitsAt (bitAt (c .before .before .before .before .args .t1)) (c .before .before .before .before .args .part .now)) (c .before .before .loop .j) (rw (length-map (c .before .before .before .before .args .part .now) (bitAt (c .before .before .before .before .args .t1))) (omega arith)) (omega arith)
-
-slice-aggregate-lent-byte : tie.Need-slice-aggregate-lent-byte Inv-loop μ-loop
-slice-aggregate-lent-byte c = search needs
-
-mul-lent-byte : tie.Need-mul-lent-byte Inv-loop μ-loop
-mul-lent-byte c = search needs
-
-sub-lent-byte : tie.Need-sub-lent-byte Inv-loop μ-loop
-sub-lent-byte c = search needs
-
-part-lent-byte-start : tie.Need-part-lent-byte-start Inv-loop μ-loop
-part-lent-byte-start c = search needs
-
-part-lent-byte-end : tie.Need-part-lent-byte-end Inv-loop μ-loop
-part-lent-byte-end c = search needs
-
-lent-byte-requires : tie.Need-lent-byte-requires Inv-loop μ-loop
-lent-byte-requires c κs =
-    let full = length (c .before .before .before .before .before .before .args .part .now) / 8 in
-    let n = length (c .before .before .before .before .before .before .args .part .now) - 8 * full in
-    (search needs, part-below (c .before .before .before .before .before .before .args .part .now) (8 * full) n (c .before .before .before .before .before .before .pre .0), omega (arith, length-take n (drop (8 * full) (c .before .before .before .before .before .before .args .part .now))))
-
-array-write-out-2 : tie.Need-array-write-out-2 Inv-loop μ-loop
-array-write-out-2 c = search needs
-
-returns-2 : tie.Need-returns-2 Inv-loop μ-loop
-returns-2 c =
-    let full = length (c .before .before .before .before .before .before .before .args .part .now) / 8 in
-    let bs = bitsAt (bitAt (c .before .before .before .before .before .before .before .args .t1)) (c .before .before .before .before .before .before .before .args .part .now) in
-    let e : c .before .before .before .before .before .loop .j ≡ full = omega arith in
-    let here = c .lent-byte .ensures ∙ rest-of (bitAt (c .before .before .before .before .before .before .before .args .t1)) (c .before .before .before .before .before .before .before .args .part .now) full (length (c .before .before .before .before .before .before .before .args .part .now) - 8 * full) (le-of-eq (length-drop (8 * full) (c .before .before .before .before .before .before .before .args .part .now))) in
-    fill-step (λ j. fromTop (drop (8 * j) (bitsAt (bitAt (c .before .before .before .before .before .before .before .args .t1)) (c .before .before .before .before .before .before .before .args .part .now)))) full (replicate 19 0) (c .before .before .before .before .before .loop .out) (c .lent-byte .result) (rw e at (c .before .before .before .before .before .loop .inv .1)) here (omega arith)
-    ∙ bytes-rest bs (full + 1) (rw (length-map (c .before .before .before .before .before .before .before .args .part .now) (bitAt (c .before .before .before .before .before .before .before .args .t1))) (omega arith)) (omega arith)
+returns-3 : tie.Need-returns-3
+returns-3 c =
+    let a = c .before .before .before .before .before .before .before .before .args in
+    let r = c .before .before .before .before .before .before .before .before .pre in
+    let i = getD (a .plan .now) (a .base + 57) 0 - 2 in
+    ap (λ (l : List ℕ). set l i (c .byte-at .result)) (c .before .before .quick-bytes .ensures)
+    ∙ one-slow (a .part .now) (a .plan .now) (a .o .now) (a .base) ((length (a .part .now) + 7) / 8) (r .5) refl (r .2) (omega arith) i (c .byte-at .result) (omega arith) (c .byte-at .ensures)
 
 pub part-bytes-spec : {M : Type 1} → statement M
 part-bytes-spec =
     tie.close
     (tie.spec
-    Inv-loop
-    μ-loop
-    loop-holds
-    slice-aggregate-eight
-    mul-eight
-    mul-eight-2
-    add-eight
-    sub-eight
-    part-eight-start
-    part-eight-end
-    eight-requires
-    array-write-out
-    add-j
-    loop-less
-    loop-again
-    mul-if1
+    add-n
+    add-odd
+    mul-odd
+    shared-slice-read-odd
+    cast-odd
+    add-if1
+    slow-bytes-requires
     returns
-    slice-aggregate-lent-byte
-    mul-lent-byte
-    sub-lent-byte
-    part-lent-byte-start
-    part-lent-byte-end
-    lent-byte-requires
-    array-write-out-2
-    returns-2)
+    quick-bytes-requires
+    returns-2
+    byte-at-requires
+    array-write-out
+    returns-3)

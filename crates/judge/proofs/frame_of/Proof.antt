@@ -15,8 +15,19 @@ enum-known-found c = search needs
 sound-requires : tie.Need-sound-requires
 sound-requires c κs = search needs
 
+same-length : tie.Need-same-length
+same-length c = search needs
+
 returns : tie.Need-returns
-returns c = (found-sound (c .before .before .before .before .before .before .before .args .d) (c .before .before .before .before .before .before .before .args .part .now) (c .before .before .before .before .before .held .result) (c .before .before .before .found .given .0 .0) (c .before .before .before .before .before .held .ensures) (c .before .before .before .found .given .1) (c .before .sound .result) (c .before .sound .ensures) (c .if1 .taken), omega (arith, c .before .before .before .before .before .held .ensures .start-fits), omega (arith, c .before .before .before .before .before .held .ensures .length-fits))
+returns c =
+    let a = c .before .before .before .before .before .before .before .before .before .before .before .before .before .args in
+    let h = c .before .before .before .before .before .before .before .before .held in
+    let s = c .before .sound in (
+      found-sound (a .d) (a .part .now) (h .result) (c .before .before .before .before .found .given .0 .0) (h .ensures .0) (c .before .before .before .before .found .given .1) (s .result) (s .ensures) (c .if1 .taken),
+      omega (arith, h .ensures .0 .start-fits),
+      omega (arith, h .ensures .0 .length-fits),
+      h .ensures .1 .plans,
+    )
 
 unsound-requires : tie.Need-unsound-requires
 unsound-requires c κs = search needs
@@ -27,11 +38,31 @@ enum-told c = search needs
 unsound-requires-2 : tie.Need-unsound-requires-2
 unsound-requires-2 c κs = search needs
 
+same-length-2 : tie.Need-same-length-2
+same-length-2 c = search needs
+
 returns-2 : tie.Need-returns-2
-returns-2 c = (found-nothing (c .before .before .before .before .before .before .before .before .args .d) (c .before .before .before .before .before .before .before .before .args .part .now) (c .unsound .result) (c .unsound .ensures) (unsound-by (c .before .before .before .before .before .before .before .before .args .d) (c .before .before .before .before .before .before .before .before .args .part .now) _ (c .before .before .sound .result) (c .before .before .sound .ensures) (c .before .if1 .left)), rw (c .unsound .ensures) (omega arith), rw (c .unsound .ensures) (omega arith))
+returns-2 c =
+    let a = c .before .before .before .before .before .before .before .before .before .before .before .before .before .before .args in
+    let s = c .before .before .sound in (
+      found-nothing (a .d) (a .part .now) (c .unsound .result) (c .unsound .ensures) (unsound-by (a .d) (a .part .now) _ (s .result) (s .ensures) (c .before .if1 .left)),
+      rw (c .unsound .ensures) (omega arith),
+      rw (c .unsound .ensures) (omega arith),
+      c .before .before .before .before .before .before .before .before .before .held .ensures .1 .plans,
+    )
+
+same-length-3 : tie.Need-same-length-3
+same-length-3 c = search needs
 
 returns-3 : tie.Need-returns-3
-returns-3 c = (found-nothing (c .before .before .before .before .before .args .d) (c .before .before .before .before .before .args .part .now) (c .unsound2 .result) (c .unsound2 .ensures) (unsound-nothing (c .before .before .before .before .before .args .d) (c .before .before .before .before .before .args .part .now) (c .before .before .before .held .result) (c .before .before .before .held .ensures) (c .before .enum-told .given .1)), rw (c .unsound2 .ensures) (omega arith), rw (c .unsound2 .ensures) (omega arith))
+returns-3 c =
+    let a = c .before .before .before .before .before .before .before .before .before .before .args in
+    let h = c .before .before .before .before .before .held in (
+      found-nothing (a .d) (a .part .now) (c .unsound2 .result) (c .unsound2 .ensures) (unsound-nothing (a .d) (a .part .now) (h .result) (h .ensures .0) (c .before .enum-told .given .1)),
+      rw (c .unsound2 .ensures) (omega arith),
+      rw (c .unsound2 .ensures) (omega arith),
+      h .ensures .1 .plans,
+    )
 
 pub frame-of-spec : {M : Type 1} → statement M
 frame-of-spec =
@@ -40,9 +71,12 @@ frame-of-spec =
     held-requires
     enum-known-found
     sound-requires
+    same-length
     returns
     unsound-requires
     enum-told
     unsound-requires-2
+    same-length-2
     returns-2
+    same-length-3
     returns-3)

@@ -1,7 +1,12 @@
--- `judge::held` meets its contract.
+-- `judge::held` meets its contract: the kind's plan is made before its octets are.
 -- Assumes nothing.
+use Prim.Native.Nat.{_+_, _≤_}
+use native.Mathlib.Omega.{arith}
+use lib.ListN.{length}
+use Rattle.record.specs.Record.{dLength}
 use mathlib.Core.Path.{refl, sym, _∙_}
-use Rattle.judge.proofs.HeldLaws.{held-frame, held-short, held-unknown}
+use Rattle.dbits.proofs.PlanLaws.{made-of}
+use Rattle.judge.proofs.HeldLaws.{held-frame, held-short, held-unknown, plan-for, plan-none}
 use borrow.Author.Needs.{needs}
 use Rattle.judge.proofs.held.Statement.{statement}
 use Rattle.judge.proofs.held.Tie as tie
@@ -22,10 +27,21 @@ unsound-requires : tie.Need-unsound-requires
 unsound-requires c κs = search needs
 
 returns : tie.Need-returns
-returns c = held-short (c .before .before .before .before .before .before .before .before .before .args .part .now) (c .before .before .before .before .k .given .0 .0) (c .before .before .size .result) (c .unsound .result) (sym (c .before .before .before .before .k .given .1) ∙ c .before .before .before .before .before .before .kind-by .ensures) (c .before .before .size .ensures) (c .before .if1 .taken) (c .unsound .ensures)
+returns c =
+    let a = c .before .before .before .before .before .before .before .before .before .before .before .args in
+    let kind = sym (c .before .before .before .before .k .given .1) ∙ c .before .before .before .before .before .before .kind-by .ensures in (
+      held-short (a .part .now) (c .before .before .before .before .k .given .0 .0) (c .before .before .size .result) (c .unsound .result) kind (c .before .before .size .ensures) (c .before .if1 .taken) (c .unsound .ensures),
+      plan-none (c .unsound .result) (a .table .now) (a .plan .now) (c .unsound .ensures) (c .before .before .before .before .before .before .before .before .before .before .before .pre .1),
+    )
+
+ready-requires : tie.Need-ready-requires
+ready-requires c κs = search needs
 
 octets-by-requires : tie.Need-octets-by-requires
-octets-by-requires c κs = search needs
+octets-by-requires c κs =
+    let m = c .before .before .before .ready .ensures in
+    let long : 12 + dLength (c .before .before .before .before .before .before .before .before .k .given .0 .0) ≤ length (c .before .before .before .before .before .before .before .before .before .before .before .before .before .before .before .args .part .now) = omega (arith, c .before .before .before .before .before .before .size .ensures, c .before .before .before .before .before .if1 .left) in
+    (long, made-of (c .before .before .before .before .before .before .before .before .before .before .before .before .before .before .before .args .table .now) (c .before .before .before .ready .last .0) (c .before .before .before .before .before .before .before .before .k .given .0 .0) (m .plans) (m .here))
 
 number-at-requires : tie.Need-number-at-requires
 number-at-requires c κs = search needs
@@ -33,8 +49,8 @@ number-at-requires c κs = search needs
 number-at-requires-2 : tie.Need-number-at-requires-2
 number-at-requires-2 c κs = search needs
 
-shared-slice-read-t16 : tie.Need-shared-slice-read-t16
-shared-slice-read-t16 c = search needs
+shared-slice-read-t23 : tie.Need-shared-slice-read-t23
+shared-slice-read-t23 c = search needs
 
 enum-told : tie.Need-enum-told
 enum-told c = search needs
@@ -42,11 +58,25 @@ enum-told c = search needs
 unsound-requires-2 : tie.Need-unsound-requires-2
 unsound-requires-2 c κs = search needs
 
+same-length : tie.Need-same-length
+same-length c = search needs
+
 returns-2 : tie.Need-returns-2
-returns-2 c = held-frame (c .before .before .before .before .before .before .before .before .before .before .before .before .args .part .now) (c .before .before .before .before .before .before .before .k .given .0 .0) (c .before .before .before .octets-by .result) (c .before .before .number-at .result) (c .before .number-at2 .result) _ (c .before .before .before .before .before .size .result) (sym (c .before .before .before .before .before .before .before .k .given .1) ∙ c .before .before .before .before .before .before .before .before .before .kind-by .ensures) (c .before .before .before .before .before .size .ensures) (c .before .before .before .before .if1 .left) (c .before .before .before .octets-by .ensures) (c .before .before .number-at .ensures) (c .before .number-at2 .ensures) refl
+returns-2 c =
+    let a = c .before .before .before .before .before .before .before .before .before .before .before .before .before .before .before .before .before .before .before .args in
+    let k = c .before .before .before .before .before .before .before .before .before .before .before .before .k .given .0 .0 in
+    let kind = sym (c .before .before .before .before .before .before .before .before .before .before .before .before .k .given .1) ∙ c .before .before .before .before .before .before .before .before .before .before .before .before .before .before .kind-by .ensures in (
+      held-frame (a .part .now) k (c .before .before .before .octets-by .result) (c .before .before .number-at .result) (c .before .number-at2 .result) _ (c .before .before .before .before .before .before .before .before .before .before .size .result) kind (c .before .before .before .before .before .before .before .before .before .before .size .ensures) (c .before .before .before .before .before .before .before .before .before .if1 .left)
+          (c .before .before .before .octets-by .ensures) (c .before .before .number-at .ensures) (c .before .number-at2 .ensures) refl,
+      plan-for (a .table .now) (a .plan .now) _ k (c .before .before .before .before .before .before .before .ready .ensures),
+    )
 
 returns-3 : tie.Need-returns-3
-returns-3 c = held-unknown (c .before .before .before .before .before .before .args .part .now) (c .unsound2 .result) (sym (c .before .before .before .kind-by .ensures) ∙ c .before .enum-told .given .1) (c .unsound2 .ensures)
+returns-3 c =
+    let a = c .before .before .before .before .before .before .before .before .args in (
+      held-unknown (a .part .now) (c .unsound2 .result) (sym (c .before .before .before .kind-by .ensures) ∙ c .before .enum-told .given .1) (c .unsound2 .ensures),
+      plan-none (c .unsound2 .result) (a .table .now) (a .plan .now) (c .unsound2 .ensures) (c .before .before .before .before .before .before .before .before .pre .1),
+    )
 
 pub held-spec : {M : Type 1} → statement M
 held-spec =
@@ -58,11 +88,13 @@ held-spec =
     size-requires
     unsound-requires
     returns
+    ready-requires
     octets-by-requires
     number-at-requires
     number-at-requires-2
-    shared-slice-read-t16
+    shared-slice-read-t23
     enum-told
     unsound-requires-2
+    same-length
     returns-2
     returns-3)

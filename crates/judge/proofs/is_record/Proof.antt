@@ -18,7 +18,7 @@ slice-aggregate-put : tie.Need-slice-aggregate-put
 slice-aggregate-put c = search needs
 
 put-requires : tie.Need-put-requires
-put-requires c κs = size-le (itemOf (c .before .before .args .i))
+put-requires c κs = (size-le (itemOf (c .before .before .before .before .args .i)), c .before .before .before .before .pre .1)
 
 slice-aggregate-begins : tie.Need-slice-aggregate-begins
 slice-aggregate-begins c = search needs
@@ -28,16 +28,16 @@ size-requires c κs = search needs
 
 begins-requires : tie.Need-begins-requires
 begins-requires c κs =
-    let e = c .size .ensures ∙ size-of (c .before .before .before .before .before .before .args .i) in
+    let e = c .size .ensures ∙ size-of (c .before .before .before .before .before .before .before .before .args .i) in
     let l : length (c .before .before .before .put .last .0) ≡ 31 = search needs in
-    (omega (arith, e, l, size-le (itemOf (c .before .before .before .before .before .before .args .i))), omega (arith, e, c .before .before .before .before .before .before .pre))
+    (omega (arith, e, l, size-le (itemOf (c .before .before .before .before .before .before .before .before .args .i))), omega (arith, e, c .before .before .before .before .before .before .before .before .pre .0))
 
 returns : tie.Need-returns
 returns c =
-    let x = itemOf (c .before .before .before .before .before .before .before .args .i) in
-    let part = c .before .before .before .before .before .before .before .args .part .now in
+    let x = itemOf (c .before .before .before .before .before .before .before .before .before .args .i) in
+    let part = c .before .before .before .before .before .before .before .before .before .args .part .now in
     let anew = c .before .before .before .before .put .last .0 in
-    let e = c .before .size .ensures ∙ size-of (c .before .before .before .before .before .before .before .args .i) in
+    let e = c .before .size .ensures ∙ size-of (c .before .before .before .before .before .before .before .before .before .args .i) in
     same-front (sizeOf x) anew part (recordOf x)
     (λ j l. ap (λ (b : List ℕ). getD b j 0) (c .before .before .before .before .put .ensures) ∙ List·getD-append (recordOf x) _ 0 j (omega (arith, l, record-length x)))
     (c .begins .result)

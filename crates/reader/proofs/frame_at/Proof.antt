@@ -1,6 +1,6 @@
 -- `reader::frame_at` meets its contract: each way out by what was found amiss, or by nothing.
 -- Assumes nothing.
-use mathlib.Core.Path.{_≡_, refl, sym, _∙_, ap, subst}
+use mathlib.Core.Path.{ap, subst}
 use Prim.Native.Nat.{ℕ, _+_}
 use native.Mathlib.Omega.{arith}
 use Rattle.bits.specs.Bit.{bitAt}
@@ -31,14 +31,14 @@ no-frame-requires c κs = search needs
 
 returns : tie.Need-returns
 returns c =
-    let a = c .before .before .before .before .before .before .before .before .before .args in
+    let a = c .before .before .before .before .before .before .before .before .before .before .args in
     let the-octets = c .before .before .before .before .before .before .before .octets in
     let the-kind-of = c .before .before .before .before .before .before .kind-of in
-    let the-k = c .before .before .before .before .k in
-    seen-nothing (captureOf (a .s .now) (a .n) (a .d)) (a .x) (a .p) (c .no-frame .result) (c .no-frame .ensures)
-    (none-past (bitAt (a .s .now)) (a .n) (a .d) (a .x) (a .p) (the-octets .result) (the-octets .ensures)
-    (the-k .given .0 .0) (kind-is (a .d) (bitAt (the-octets .result)) (the-kind-of .result) (the-k .given .0 .0) (the-kind-of .ensures) (the-k .given .1))
-    (omega (arith, c .before .before .body .ensures)))
+    let the-k = c .before .before .before .before .k in (
+      seen-nothing (captureOf (a .s .now) (a .n) (a .d)) (a .x) (a .p) (c .no-frame .result) (c .no-frame .ensures)
+          (none-past (bitAt (a .s .now)) (a .n) (a .d) (a .x) (a .p) (the-octets .result) (the-octets .ensures) (the-k .given .0 .0) (kind-is (a .d) (bitAt (the-octets .result)) (the-kind-of .result) (the-k .given .0 .0) (the-kind-of .ensures) (the-k .given .1)) (omega (arith, c .before .before .body .ensures))),
+      c .before .before .before .before .before .before .before .before .before .before .pre .3,
+    )
 
 verdict-in-requires : tie.Need-verdict-in-requires
 verdict-in-requires c κs = search needs
@@ -49,18 +49,22 @@ allowed-in-requires c κs = search needs
 no-frame-requires-2 : tie.Need-no-frame-requires-2
 no-frame-requires-2 c κs = search needs
 
+same-length : tie.Need-same-length
+same-length c = search needs
+
 returns-2 : tie.Need-returns-2
 returns-2 c =
-    let a = c .before .before .before .before .before .before .before .before .before .before .before .before .args in
-    let the-octets = c .before .before .before .before .before .before .before .before .before .before .octets in
-    let the-kind-of = c .before .before .before .before .before .before .before .before .before .kind-of in
-    let the-k = c .before .before .before .before .before .before .before .k in
-    let the-verdict-in = c .before .before .before .verdict-in in
-    let the-allowed-in = c .before .before .allowed-in in
-    seen-nothing (captureOf (a .s .now) (a .n) (a .d)) (a .x) (a .p) (c .no-frame2 .result) (c .no-frame2 .ensures)
-    (none-refused (bitAt (a .s .now)) (a .n) (a .d) (a .x) (a .p) (the-octets .result) (the-octets .ensures)
-    (the-k .given .0 .0) (kind-is (a .d) (bitAt (the-octets .result)) (the-kind-of .result) (the-k .given .0 .0) (the-kind-of .ensures) (the-k .given .1))
-    (the-verdict-in .result) (the-allowed-in .result) (the-verdict-in .ensures) (the-allowed-in .ensures) (c .before .if2 .taken))
+    let a = c .before .before .before .before .before .before .before .before .before .before .before .before .before .before .before .before .args in
+    let the-octets = c .before .before .before .before .before .before .before .before .before .before .before .before .before .octets in
+    let the-kind-of = c .before .before .before .before .before .before .before .before .before .before .before .before .kind-of in
+    let the-k = c .before .before .before .before .before .before .before .before .before .before .k in
+    let the-verdict-in = c .before .before .before .before .before .verdict-in in
+    let the-allowed-in = c .before .before .allowed-in in (
+      seen-nothing (captureOf (a .s .now) (a .n) (a .d)) (a .x) (a .p) (c .no-frame2 .result) (c .no-frame2 .ensures)
+          (none-refused (bitAt (a .s .now)) (a .n) (a .d) (a .x) (a .p) (the-octets .result) (the-octets .ensures) (the-k .given .0 .0) (kind-is (a .d) (bitAt (the-octets .result)) (the-kind-of .result) (the-k .given .0 .0) (the-kind-of .ensures) (the-k .given .1))
+          (the-verdict-in .result) (the-allowed-in .result) (the-verdict-in .ensures .0) (the-allowed-in .ensures) (c .before .if2 .taken)),
+      the-verdict-in .ensures .1,
+    )
 
 tail-at-requires : tie.Need-tail-at-requires
 tail-at-requires c κs = search needs
@@ -71,17 +75,21 @@ least-tail-requires c κs = search needs
 no-frame-requires-3 : tie.Need-no-frame-requires-3
 no-frame-requires-3 c κs = search needs
 
+same-length-2 : tie.Need-same-length-2
+same-length-2 c = search needs
+
 returns-3 : tie.Need-returns-3
 returns-3 c =
-    let a = c .before .before .before .before .before .before .before .before .before .before .before .before .before .before .before .args in
-    let the-octets = c .before .before .before .before .before .before .before .before .before .before .before .before .before .octets in
-    let the-kind-of = c .before .before .before .before .before .before .before .before .before .before .before .before .kind-of in
-    let the-k = c .before .before .before .before .before .before .before .before .before .before .k in
-    let the-tail-at = c .before .before .before .tail-at in
-    seen-nothing (captureOf (a .s .now) (a .n) (a .d)) (a .x) (a .p) (c .no-frame3 .result) (c .no-frame3 .ensures)
-    (none-short (bitAt (a .s .now)) (a .n) (a .d) (a .x) (a .p) (the-octets .result) (the-octets .ensures)
-    (the-k .given .0 .0) (kind-is (a .d) (bitAt (the-octets .result)) (the-kind-of .result) (the-k .given .0 .0) (the-kind-of .ensures) (the-k .given .1))
-    (the-tail-at .result) (subst (λ (q : ℕ). Tail (captureOf (a .s .now) (a .n) (a .d)) q (the-tail-at .result)) (ap (λ (b : ℕ). a .p + b) (c .before .before .before .before .before .before .before .before .body .ensures)) (the-tail-at .ensures (a .d))) (omega (arith, c .before .before .least-tail .ensures)))
+    let a = c .before .before .before .before .before .before .before .before .before .before .before .before .before .before .before .before .before .before .before .args in
+    let the-octets = c .before .before .before .before .before .before .before .before .before .before .before .before .before .before .before .before .octets in
+    let the-kind-of = c .before .before .before .before .before .before .before .before .before .before .before .before .before .before .before .kind-of in
+    let the-k = c .before .before .before .before .before .before .before .before .before .before .before .before .before .k in
+    let the-tail-at = c .before .before .before .tail-at in (
+      seen-nothing (captureOf (a .s .now) (a .n) (a .d)) (a .x) (a .p) (c .no-frame3 .result) (c .no-frame3 .ensures)
+          (none-short (bitAt (a .s .now)) (a .n) (a .d) (a .x) (a .p) (the-octets .result) (the-octets .ensures) (the-k .given .0 .0) (kind-is (a .d) (bitAt (the-octets .result)) (the-kind-of .result) (the-k .given .0 .0) (the-kind-of .ensures) (the-k .given .1))
+          (the-tail-at .result) (subst (λ (q : ℕ). Tail (captureOf (a .s .now) (a .n) (a .d)) q (the-tail-at .result)) (ap (λ (b : ℕ). a .p + b) (c .before .before .before .before .before .before .before .before .before .before .before .body .ensures)) (the-tail-at .ensures (a .d))) (omega (arith, c .before .before .least-tail .ensures))),
+      c .before .before .before .before .before .before .before .before .verdict-in .ensures .1,
+    )
 
 enum-told : tie.Need-enum-told
 enum-told c = search needs
@@ -89,26 +97,34 @@ enum-told c = search needs
 no-frame-requires-4 : tie.Need-no-frame-requires-4
 no-frame-requires-4 c κs = search needs
 
+same-length-3 : tie.Need-same-length-3
+same-length-3 c = search needs
+
 returns-4 : tie.Need-returns-4
 returns-4 c =
-    let a = c .before .before .before .before .before .before .before .before .before .before .before .before .before .before .args in
-    let the-octets = c .before .before .before .before .before .before .before .before .before .before .before .before .octets in
-    let the-kind-of = c .before .before .before .before .before .before .before .before .before .before .before .kind-of in
-    let the-k = c .before .before .before .before .before .before .before .before .before .k in
-    let the-body = c .before .before .before .before .before .before .before .body in
-    let the-verdict-in = c .before .before .before .before .before .verdict-in in
+    let a = c .before .before .before .before .before .before .before .before .before .before .before .before .before .before .before .before .before .before .args in
+    let the-octets = c .before .before .before .before .before .before .before .before .before .before .before .before .before .before .before .octets in
+    let the-kind-of = c .before .before .before .before .before .before .before .before .before .before .before .before .before .before .kind-of in
+    let the-k = c .before .before .before .before .before .before .before .before .before .before .before .before .k in
+    let the-body = c .before .before .before .before .before .before .before .before .before .before .body in
+    let the-verdict-in = c .before .before .before .before .before .before .before .verdict-in in
     let the-allowed-in = c .before .before .before .before .allowed-in in
-    let the-tail-at = c .before .before .tail-at in
-    seen-due (bitAt (a .s .now)) (a .n) (a .d) (a .x) (a .p) (the-octets .result) (the-octets .ensures)
-    (the-k .given .0 .0) (kind-is (a .d) (bitAt (the-octets .result)) (the-kind-of .result) (the-k .given .0 .0) (the-kind-of .ensures) (the-k .given .1))
-    (the-verdict-in .result) (the-tail-at .result) (the-allowed-in .result) (omega (arith, the-body .ensures)) (the-verdict-in .ensures) (the-allowed-in .ensures) (c .before .before .before .if2 .left) (subst (λ (q : ℕ). Tail (captureOf (a .s .now) (a .n) (a .d)) q (the-tail-at .result)) (ap (λ (b : ℕ). a .p + b) (the-body .ensures)) (the-tail-at .ensures (a .d))) (omega (arith, c .before .least-tail .ensures))
+    let the-tail-at = c .before .before .tail-at in (
+      seen-due (bitAt (a .s .now)) (a .n) (a .d) (a .x) (a .p) (the-octets .result) (the-octets .ensures) (the-k .given .0 .0) (kind-is (a .d) (bitAt (the-octets .result)) (the-kind-of .result) (the-k .given .0 .0) (the-kind-of .ensures) (the-k .given .1))
+          (the-verdict-in .result) (the-tail-at .result) (the-allowed-in .result) (omega (arith, the-body .ensures)) (the-verdict-in .ensures .0) (the-allowed-in .ensures) (c .before .before .before .if2 .left)
+          (subst (λ (q : ℕ). Tail (captureOf (a .s .now) (a .n) (a .d)) q (the-tail-at .result)) (ap (λ (b : ℕ). a .p + b) (the-body .ensures)) (the-tail-at .ensures (a .d))) (omega (arith, c .before .least-tail .ensures)),
+      the-verdict-in .ensures .1,
+    )
 
 returns-5 : tie.Need-returns-5
 returns-5 c =
-    let a = c .before .before .before .before .before .before .args in
+    let a = c .before .before .before .before .before .before .before .args in
     let the-octets = c .before .before .before .before .octets in
-    let the-kind-of = c .before .before .before .kind-of in
-    seen-nothing (captureOf (a .s .now) (a .n) (a .d)) (a .x) (a .p) (c .no-frame4 .result) (c .no-frame4 .ensures) (none-of-no-kind (bitAt (a .s .now)) (a .n) (a .d) (a .x) (a .p) (the-octets .result) (the-octets .ensures) (kind-no (a .d) (bitAt (the-octets .result)) (the-kind-of .result) (the-kind-of .ensures) (c .before .enum-told .given .1)))
+    let the-kind-of = c .before .before .before .kind-of in (
+      seen-nothing (captureOf (a .s .now) (a .n) (a .d)) (a .x) (a .p) (c .no-frame4 .result) (c .no-frame4 .ensures)
+          (none-of-no-kind (bitAt (a .s .now)) (a .n) (a .d) (a .x) (a .p) (the-octets .result) (the-octets .ensures) (kind-no (a .d) (bitAt (the-octets .result)) (the-kind-of .result) (the-kind-of .ensures) (c .before .enum-told .given .1))),
+      c .before .before .before .before .before .before .before .pre .3,
+    )
 
 pub frame-at-spec : {M : Type 1} → statement M
 frame-at-spec =
@@ -124,12 +140,15 @@ frame-at-spec =
     verdict-in-requires
     allowed-in-requires
     no-frame-requires-2
+    same-length
     returns-2
     tail-at-requires
     least-tail-requires
     no-frame-requires-3
+    same-length-2
     returns-3
     enum-told
     no-frame-requires-4
+    same-length-3
     returns-4
     returns-5)

@@ -1,35 +1,59 @@
--- `reader::gap_end` meets its contract: nothing starts at the places passed, because a fixed bit differs there or no frame is seen.
+-- `reader::gap_end` meets its contract: nothing starts at the places passed, because the first nine bits do not stand there, another fixed bit differs,
+-- or no frame is seen.
 -- Assumes nothing.
-use mathlib.Core.Path.{_≡_, refl, sym, _∙_, ap, subst}
-use Prim.Native.Nat.{ℕ, _+_, _-_, _≤_, _<_}
+use mathlib.Core.Path.{_≡_, refl, sym, _∙_}
+use Prim.Native.Nat.{_+_, _-_, _≤_}
 use native.Mathlib.Omega.{arith}
 use Rattle.channel.specs.Frames.{captureOf}
-use Rattle.reader.specs.Seen.{Starting}
-use Rattle.reader.proofs.GapLaws.{sync-place, none-differs, Passed, passed-more, gap-found, gap-all, not-starting}
+use Rattle.frame.specs.Kept.{Kept}
+use Rattle.reader.proofs.GapLaws.{sync-place, none-differs, Passed, passed-more, passed-over, gap-found, gap-all, not-starting}
 use borrow.Author.Needs.{needs}
 use Rattle.reader.proofs.gap_end.Statement.{statement}
 use Rattle.reader.proofs.gap_end.Tie as tie
 
 abbrev Inv-loop : tie.InvT-loop
-Inv-loop s n d from sync q₀ j₀ q j = (q ≡ q₀) × (j ≤ 9) × (from ≤ q) × (q + 158 ≤ n) × Passed (captureOf s n d) from q
+Inv-loop s n d from masks sync q₀ j₀ q j = (q ≡ q₀) × (j ≤ 8) × (from ≤ q) × (q + 158 ≤ n) × Passed (captureOf s n d) from q
 
 abbrev μ-loop : tie.MeasureT-loop
-μ-loop s n d from sync q₀ j₀ q j = 9 - j
+μ-loop s n d from masks sync q₀ j₀ q j = 8 - j
 
 abbrev Inv-places : tie.InvT-places
-Inv-places s n d from sync q₀ q = (from ≤ q) × (q ≤ n) × Passed (captureOf s n d) from q
+Inv-places s n d from masks₀ sync q₀ masks q = (from ≤ q) × (q ≤ n) × Passed (captureOf s n d) from q × Kept masks
 
 abbrev μ-places : tie.MeasureT-places
-μ-places s n d from sync q₀ q = n - q
+μ-places s n d from masks₀ sync q₀ masks q = n - q
 
 places-holds : tie.Need-places-holds Inv-loop μ-loop Inv-places μ-places
-places-holds c = (omega arith, omega arith, λ i a b. absurd (omega arith))
+places-holds c = (omega arith, omega arith, λ i a b. absurd (omega arith), c .before .before .pre .3)
 
 add-places : tie.Need-add-places Inv-loop μ-loop Inv-places μ-places
 add-places c = search needs
 
+sub-sync-from : tie.Need-sub-sync-from Inv-loop μ-loop Inv-places μ-places
+sub-sync-from c = search needs
+
+sync-from-requires : tie.Need-sync-from-requires Inv-loop μ-loop Inv-places μ-places
+sync-from-requires c κs = (omega arith, omega arith, omega arith)
+
+add-if1 : tie.Need-add-if1 Inv-loop μ-loop Inv-places μ-places
+add-if1 c = omega (arith, c .sync-from .ensures .within)
+
+same-length : tie.Need-same-length Inv-loop μ-loop Inv-places μ-places
+same-length c = c .before .before .before .places .inv .3 .size ∙ sym (c .before .before .before .before .before .before .pre .3 .size)
+
+returns : tie.Need-returns Inv-loop μ-loop Inv-places μ-places
+returns c =
+    let a = c .before .before .before .before .before .before .args in
+    let l = c .before .before .before .places in
+    let r = c .before .sync-from in
+    (gap-all (captureOf (a .s .now) (a .n) (a .d)) (a .from) (r .result) (passed-over (captureOf (a .s .now) (a .n) (a .d)) (a .from) (l .q) (l .inv .2) (a .n - 158) (r .result) (r .ensures)) (omega (arith, r .ensures .from)) (omega (arith, r .ensures .within)) (omega arith), l .inv .3)
+
 loop-holds : tie.Need-loop-holds Inv-loop μ-loop Inv-places μ-places
-loop-holds c = (refl, omega arith, omega arith, omega arith, c .before .places .inv .2)
+loop-holds c =
+    let a = c .before .before .before .before .before .before .args in
+    let l = c .before .before .before .places in
+    let r = c .before .sync-from in
+    (refl, omega arith, omega (arith, r .ensures .from), omega arith, passed-over (captureOf (a .s .now) (a .n) (a .d)) (a .from) (l .q) (l .inv .2) (a .n - 158) (r .result) (r .ensures))
 
 array-read-place : tie.Need-array-read-place Inv-loop μ-loop Inv-places μ-places
 array-read-place c = search needs
@@ -47,13 +71,13 @@ add-q : tie.Need-add-q Inv-loop μ-loop Inv-places μ-places
 add-q c = search needs
 
 places-less : tie.Need-places-less Inv-loop μ-loop Inv-places μ-places
-places-less c = search needs
+places-less c = omega (arith, c .before .before .before .before .before .sync-from .ensures .from)
 
 places-again : tie.Need-places-again Inv-loop μ-loop Inv-places μ-places
 places-again c =
-    let a = c .before .before .before .before .before .before .before .args in
+    let a = c .before .before .before .before .before .before .before .before .before .before .args in
     let l = c .before .before .before .loop in
-    (omega arith, omega arith, passed-more (captureOf (a .s .now) (a .n) (a .d)) (a .from) (l .q) (l .inv .4) (none-differs (captureOf (a .s .now) (a .n) (a .d)) (l .q) (l .j) (c .before .bit .result) (omega arith) (c .before .bit .ensures) (c .if1 .taken)))
+    (omega arith, omega arith, passed-more (captureOf (a .s .now) (a .n) (a .d)) (a .from) (l .q) (l .inv .4) (none-differs (captureOf (a .s .now) (a .n) (a .d)) (l .q) (l .j) (c .before .bit .result) (omega arith) (c .before .bit .ensures) (c .if2 .taken)), c .before .before .before .before .before .before .before .places .inv .3)
 
 add-j : tie.Need-add-j Inv-loop μ-loop Inv-places μ-places
 add-j c = search needs
@@ -65,31 +89,39 @@ loop-again : tie.Need-loop-again Inv-loop μ-loop Inv-places μ-places
 loop-again c = let l = c .before .before .before .loop in (l .inv .0, omega arith, omega arith, omega arith, l .inv .4)
 
 starts-at-requires : tie.Need-starts-at-requires Inv-loop μ-loop Inv-places μ-places
-starts-at-requires c κs = search needs
+starts-at-requires c κs = (omega arith, omega arith, omega arith, c .before .before .before .before .before .before .places .inv .3)
 
-returns : tie.Need-returns Inv-loop μ-loop Inv-places μ-places
-returns c =
-    let a = c .before .before .before .before .before .before .before .args in
-    let l = c .before .before .before .loop in
-    gap-found (captureOf (a .s .now) (a .n) (a .d)) (a .from) (l .q) (l .inv .4) (omega arith) (omega arith) (c .before .starts-at .result) (c .before .starts-at .ensures) (c .if2 .taken)
+same-length-2 : tie.Need-same-length-2 Inv-loop μ-loop Inv-places μ-places
+same-length-2 c = c .before .before .before .starts-at .ensures .1 .size ∙ sym (c .before .before .before .before .before .before .before .before .before .before .before .before .before .pre .3 .size)
+
+returns-2 : tie.Need-returns-2 Inv-loop μ-loop Inv-places μ-places
+returns-2 c =
+    let a = c .before .before .before .before .before .before .before .before .before .before .before .before .before .args in
+    let l = c .before .before .before .before .before .before .loop in
+    let s = c .before .before .before .starts-at in
+    (gap-found (captureOf (a .s .now) (a .n) (a .d)) (a .from) (l .q) (l .inv .4) (omega arith) (omega arith) (s .result) (s .ensures .0) (c .if3 .taken), s .ensures .1)
 
 add-q-2 : tie.Need-add-q-2 Inv-loop μ-loop Inv-places μ-places
 add-q-2 c = search needs
 
 places-less-2 : tie.Need-places-less-2 Inv-loop μ-loop Inv-places μ-places
-places-less-2 c = search needs
+places-less-2 c = omega (arith, c .before .before .before .before .before .before .before .before .sync-from .ensures .from)
 
 places-again-2 : tie.Need-places-again-2 Inv-loop μ-loop Inv-places μ-places
 places-again-2 c =
-    let a = c .before .before .before .before .before .before .before .args in
-    let l = c .before .before .before .loop in
-    (omega arith, omega arith, passed-more (captureOf (a .s .now) (a .n) (a .d)) (a .from) (l .q) (l .inv .4) (not-starting (captureOf (a .s .now) (a .n) (a .d)) (l .q) (c .before .starts-at .result) (c .before .starts-at .ensures) (c .if2 .left)))
+    let a = c .before .before .before .before .before .before .before .before .before .before .before .before .before .args in
+    let l = c .before .before .before .before .before .before .loop in
+    let s = c .before .before .before .starts-at in
+    (omega arith, omega arith, passed-more (captureOf (a .s .now) (a .n) (a .d)) (a .from) (l .q) (l .inv .4) (not-starting (captureOf (a .s .now) (a .n) (a .d)) (l .q) (s .result) (s .ensures .0) (c .if3 .left)), s .ensures .1)
 
-returns-2 : tie.Need-returns-2 Inv-loop μ-loop Inv-places μ-places
-returns-2 c =
-    let a = c .before .before .before .args in
+same-length-3 : tie.Need-same-length-3 Inv-loop μ-loop Inv-places μ-places
+same-length-3 c = c .before .places .inv .3 .size ∙ sym (c .before .before .before .before .pre .3 .size)
+
+returns-3 : tie.Need-returns-3 Inv-loop μ-loop Inv-places μ-places
+returns-3 c =
+    let a = c .before .before .before .before .args in
     let l = c .before .places in
-    gap-all (captureOf (a .s .now) (a .n) (a .d)) (a .from) (l .q) (l .inv .2) (omega arith) (omega arith) (omega arith)
+    (gap-all (captureOf (a .s .now) (a .n) (a .d)) (a .from) (l .q) (l .inv .2) (omega arith) (omega arith) (omega arith), l .inv .3)
 
 pub gap-end-spec : {M : Type 1} → statement M
 gap-end-spec =
@@ -101,6 +133,11 @@ gap-end-spec =
     μ-places
     places-holds
     add-places
+    sub-sync-from
+    sync-from-requires
+    add-if1
+    same-length
+    returns
     loop-holds
     array-read-place
     cast-place
@@ -113,8 +150,10 @@ gap-end-spec =
     loop-less
     loop-again
     starts-at-requires
-    returns
+    same-length-2
+    returns-2
     add-q-2
     places-less-2
     places-again-2
-    returns-2)
+    same-length-3
+    returns-3)

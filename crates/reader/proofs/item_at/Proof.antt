@@ -22,20 +22,27 @@ add-gap-end c = search needs
 gap-end-requires : tie.Need-gap-end-requires
 gap-end-requires c κs = search needs
 
-sub-t11 : tie.Need-sub-t11
-sub-t11 c = search needs
+sub-t14 : tie.Need-sub-t14
+sub-t14 c = search needs
+
+same-length : tie.Need-same-length
+same-length c = search needs
 
 returns : tie.Need-returns
 returns c =
-    let a = c .before .before .before .before .args in
-    let the-frame-at = c .before .before .frame-at in
-    item-frame (captureOf (a .s .now) (a .n) (a .d)) (a .c) (the-frame-at .result) (the-frame-at .ensures) (c .enum-told .given .0 .0) (c .enum-told .given .1)
+    let a = c .before .before .before .before .before .before .before .before .args in
+    let seen = c .before .before .before .before .frame-at in
+    (item-frame (captureOf (a .s .now) (a .n) (a .d)) (a .c) (seen .result) (seen .ensures .0) (c .enum-told .given .0 .0) (c .enum-told .given .1), seen .ensures .1)
+
+same-length-2 : tie.Need-same-length-2
+same-length-2 c = search needs
 
 returns-2 : tie.Need-returns-2
 returns-2 c =
-    let a = c .before .before .before .before .before .args in
-    let the-frame-at = c .before .before .before .frame-at in
-    item-gap (captureOf (a .s .now) (a .n) (a .d)) (a .c) (the-frame-at .result) (the-frame-at .ensures) (c .before .enum-told2 .given .1) (c .gap-end .result) (omega arith) (c .gap-end .ensures)
+    let a = c .before .before .before .before .before .before .before .before .before .before .before .before .args in
+    let seen = c .before .before .before .before .before .before .before .before .frame-at in
+    let end = c .before .before .gap-end in
+    (item-gap (captureOf (a .s .now) (a .n) (a .d)) (a .c) (seen .result) (seen .ensures .0) (c .before .before .before .before .enum-told2 .given .1) (end .result) (omega arith) (end .ensures .0), end .ensures .1)
 
 pub item-at-spec : {M : Type 1} → statement M
 item-at-spec =
@@ -46,6 +53,8 @@ item-at-spec =
     enum-told-2
     add-gap-end
     gap-end-requires
-    sub-t11
+    sub-t14
+    same-length
     returns
+    same-length-2
     returns-2)

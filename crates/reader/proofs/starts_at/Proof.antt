@@ -15,17 +15,25 @@ enum-told c = search needs
 enum-told-2 : tie.Need-enum-told-2
 enum-told-2 c = search needs
 
+same-length : tie.Need-same-length
+same-length c = search needs
+
 returns : tie.Need-returns
 returns c =
-    let a = c .before .before .before .before .args in
-    let the-frame-at = c .before .before .frame-at in
-    start-seen (captureOf (a .s .now) (a .n) (a .d)) (a .q) (the-frame-at .result) (c .enum-told .given .0 .0) (the-frame-at .ensures) (c .enum-told .given .1)
+    let a = c .before .before .before .before .before .before .before .before .args in
+    let seen = c .before .before .before .before .frame-at in
+    (start-seen (captureOf (a .s .now) (a .n) (a .d)) (a .q) (seen .result) (c .enum-told .given .0 .0) (seen .ensures .0) (c .enum-told .given .1), seen .ensures .1)
+
+same-length-2 : tie.Need-same-length-2
+same-length-2 c = search needs
 
 returns-2 : tie.Need-returns-2
 returns-2 c =
-    let a = c .before .before .before .before .args in
-    let the-frame-at = c .before .before .frame-at in
-    none-seen (captureOf (a .s .now) (a .n) (a .d)) (a .q) (the-frame-at .result) (the-frame-at .ensures) (c .enum-told2 .given .1)
+    let a = c .before .before .before .before .before .before .before .before .args in
+    let seen = c .before .before .before .before .frame-at in
+    (none-seen (captureOf (a .s .now) (a .n) (a .d)) (a .q) (seen .result) (seen .ensures .0) (c .enum-told2 .given .1), seen .ensures .1)
 
 pub starts-at-spec : {M : Type 1} → statement M
-starts-at-spec = tie.close (tie.spec frame-at-requires enum-told enum-told-2 returns returns-2)
+starts-at-spec =
+    tie.close
+    (tie.spec frame-at-requires enum-told enum-told-2 same-length returns same-length-2 returns-2)

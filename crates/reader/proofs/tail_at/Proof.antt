@@ -1,57 +1,75 @@
 -- `reader::tail_at` meets its contract: all bits passed are ones.
 -- Assumes nothing.
-use mathlib.Core.Path.{_≡_, refl, sym, _∙_}
+use mathlib.Core.Path.{_≡_, refl}
 use mathlib.Core.Logic.{inl, inr}
-use mathlib.Core.Bool.{true, false}
-use Prim.Native.Nat.{ℕ, _-_, _≤_, _<_}
+use mathlib.Core.Bool.{true}
+use Prim.Native.Nat.{ℕ, _+_, _*_, _-_, _/_, _≤_, _<_}
 use native.Mathlib.Omega.{arith}
 use Rattle.bits.specs.Bit.{bitAt}
-use Rattle.reader.proofs.TailLaws.{ones-more, tail-met}
+use Rattle.reader.proofs.TailLaws.{ones-more, zero-met, tail-met}
 use borrow.Author.Needs.{needs}
 use Rattle.reader.proofs.tail_at.Statement.{statement}
 use Rattle.reader.proofs.tail_at.Tie as tie
 
 abbrev Inv-loop : tie.InvT-loop
-Inv-loop s n q end₀ end = (q ≤ end) × (end ≤ n) × ((i : ℕ) → q ≤ i → i < end → bitAt s i ≡ true)
+Inv-loop s n q end₀ end = (q ≤ end) × ((i : ℕ) → q ≤ i → i < end → bitAt s i ≡ true) × (end ≤ n)
 
 abbrev μ-loop : tie.MeasureT-loop
 μ-loop s n q end₀ end = n - end
 
 loop-holds : tie.Need-loop-holds Inv-loop μ-loop
-loop-holds c = (omega arith, omega arith, λ i a b. absurd (omega arith))
+loop-holds c = (omega arith, λ i a b. absurd (omega arith), omega arith)
 
-bit-requires : tie.Need-bit-requires Inv-loop μ-loop
-bit-requires c κs = search needs
+shared-slice-read-first-zero : tie.Need-shared-slice-read-first-zero Inv-loop μ-loop
+shared-slice-read-first-zero c = search needs
 
-add-end : tie.Need-add-end Inv-loop μ-loop
-add-end c = search needs
+first-zero-requires : tie.Need-first-zero-requires Inv-loop μ-loop
+first-zero-requires c κs = omega arith
 
-loop-less : tie.Need-loop-less Inv-loop μ-loop
-loop-less c = search needs
+mul-stop : tie.Need-mul-stop Inv-loop μ-loop
+mul-stop c = search needs
 
-loop-again : tie.Need-loop-again Inv-loop μ-loop
-loop-again c =
-    let a = c .before .before .before .before .before .args in
-    let l = c .before .before .before .loop in
-    (omega arith, omega arith, ones-more (a .s .now) (a .n) (a .q) (l .end) (l .inv .2) (c .before .bit .result) (c .before .bit .ensures) (c .if1 .taken))
+add-stop : tie.Need-add-stop Inv-loop μ-loop
+add-stop c = omega (arith, c .first-zero .ensures .within)
 
 sub-result : tie.Need-sub-result Inv-loop μ-loop
 sub-result c = search needs
 
 returns : tie.Need-returns Inv-loop μ-loop
 returns c =
-    let a = c .before .before .before .before .before .args in
-    let l = c .before .before .before .loop in
-    tail-met (a .s .now) (a .n) (a .q) (l .end) (omega arith) (omega arith) (l .inv .2) (inr (sym (c .before .bit .ensures) ∙ c .if1 .left))
+    let a = c .before .before .before .before .before .before .args in
+    let l = c .before .before .before .before .loop in
+    let z = c .before .first-zero in
+    tail-met (a .s .now) (a .n) (a .q) (a .n) (omega arith) (omega arith) (λ i b e. ones-more (a .s .now) (a .q) (l .end) (z .result) (l .inv .1) (z .ensures) i b (omega arith)) (inl refl)
 
 sub-result-2 : tie.Need-sub-result-2 Inv-loop μ-loop
-sub-result-2 c = search needs
+sub-result-2 c = omega (arith, c .before .before .first-zero .ensures .from)
 
 returns-2 : tie.Need-returns-2 Inv-loop μ-loop
 returns-2 c =
+    let a = c .before .before .before .before .before .before .before .args in
+    let l = c .before .before .before .before .before .loop in
+    let z = c .before .before .first-zero in
+    tail-met (a .s .now) (a .n) (a .q) (8 * (l .end / 8) + z .result) (omega (arith, z .ensures .from)) (omega arith) (ones-more (a .s .now) (a .q) (l .end) (z .result) (l .inv .1) (z .ensures)) (inr (zero-met (a .s .now) (a .q) (l .end) (z .result) (l .inv .1) (z .ensures) (omega arith)))
+
+loop-less : tie.Need-loop-less Inv-loop μ-loop
+loop-less c = omega (arith, c .before .before .first-zero .ensures .within)
+
+loop-again : tie.Need-loop-again Inv-loop μ-loop
+loop-again c =
+    let a = c .before .before .before .before .before .before .before .args in
+    let l = c .before .before .before .before .before .loop in
+    let z = c .before .before .first-zero in
+    (omega (arith, z .ensures .from), ones-more (a .s .now) (a .q) (l .end) (z .result) (l .inv .1) (z .ensures), omega arith)
+
+sub-result-3 : tie.Need-sub-result-3 Inv-loop μ-loop
+sub-result-3 c = search needs
+
+returns-3 : tie.Need-returns-3 Inv-loop μ-loop
+returns-3 c =
     let a = c .before .before .before .args in
     let l = c .before .loop in
-    tail-met (a .s .now) (a .n) (a .q) (l .end) (omega arith) (omega arith) (l .inv .2) (inl (omega arith))
+    tail-met (a .s .now) (a .n) (a .q) (l .end) (omega arith) (omega arith) (l .inv .1) (inl (omega arith))
 
 pub tail-at-spec : {M : Type 1} → statement M
 tail-at-spec =
@@ -60,11 +78,15 @@ tail-at-spec =
     Inv-loop
     μ-loop
     loop-holds
-    bit-requires
-    add-end
-    loop-less
-    loop-again
+    shared-slice-read-first-zero
+    first-zero-requires
+    mul-stop
+    add-stop
     sub-result
     returns
     sub-result-2
-    returns-2)
+    returns-2
+    loop-less
+    loop-again
+    sub-result-3
+    returns-3)

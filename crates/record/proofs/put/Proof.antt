@@ -16,54 +16,54 @@ number-requires c κs = search needs
 
 put-front-requires : tie.Need-put-front-requires
 put-front-requires c κs =
-    let s = c .before .before .before .before .before .before .before in
+    let s = c .before .before .before .before .before .before .before .before .before in
     let f = c .before .before .before .found in
-    omega (arith, s .pre, size-frame (s .args .i) (f .given .0 .0) (f .given .1))
+    omega (arith, s .pre .0, size-frame (s .args .i) (f .given .0 .0) (f .given .1))
 
 control-byte-requires : tie.Need-control-byte-requires
 control-byte-requires c κs = search needs
 
 slice-write-out : tie.Need-slice-write-out
 slice-write-out c =
-    let s = c .before .before .before .before .before .before .before .before .before .before .before in
+    let s = c .before .before .before .before .before .before .before .before .before .before .before .before .before in
     let f = c .before .before .before .before .before .before .before .found in
-    omega (arith, c .before .before .before .put-front .kept .0, s .pre, size-frame (s .args .i) (f .given .0 .0) (f .given .1))
+    omega (arith, c .before .before .before .put-front .kept .0, s .pre .0, size-frame (s .args .i) (f .given .0 .0) (f .given .1))
 
 extended-byte-requires : tie.Need-extended-byte-requires
 extended-byte-requires c κs = search needs
 
 slice-write-out-2 : tie.Need-slice-write-out-2
 slice-write-out-2 c =
-    let s = c .before .before .before .before .before .before .before .before .before .before .before .before in
+    let s = c .before .before .before .before .before .before .before .before .before .before .before .before .before .before in
     let f = c .before .before .before .before .before .before .before .before .found in
-    simp length-set (omega (arith, c .before .before .before .before .put-front .kept .0, s .pre, size-frame (s .args .i) (f .given .0 .0) (f .given .1)))
+    simp length-set (omega (arith, c .before .before .before .before .put-front .kept .0, s .pre .0, size-frame (s .args .i) (f .given .0 .0) (f .given .1)))
 
 slice-write-out-3 : tie.Need-slice-write-out-3
 slice-write-out-3 c =
-    let s = c .before .before .before .before .before .before .before .before .before .before .before .before in
+    let s = c .before .before .before .before .before .before .before .before .before .before .before .before .before .before in
     let f = c .before .before .before .before .before .before .before .before .found in
-    simp length-set (omega (arith, c .before .before .before .before .put-front .kept .0, s .pre, size-frame (s .args .i) (f .given .0 .0) (f .given .1)))
+    simp length-set (omega (arith, c .before .before .before .before .put-front .kept .0, s .pre .0, size-frame (s .args .i) (f .given .0 .0) (f .given .1)))
 
 put-d-requires : tie.Need-put-d-requires
 put-d-requires c κs =
-    let s = c .before .before .before .before .before .before .before .before .before .before .before .before .before in
+    let s = c .before .before .before .before .before .before .before .before .before .before .before .before .before .before .before in
     let f = c .before .before .before .before .before .before .before .before .before .found in
-    simp length-set (omega (arith, c .before .before .before .before .before .put-front .kept .0, s .pre, size-frame (s .args .i) (f .given .0 .0) (f .given .1)))
+    (simp length-set (omega (arith, c .before .before .before .before .before .put-front .kept .0, s .pre .0, size-frame (s .args .i) (f .given .0 .0) (f .given .1))), s .pre .1 (f .given .0 .0) (f .given .1))
 
 enum-told : tie.Need-enum-told
 enum-told c = search needs
 
 put-front-requires-2 : tie.Need-put-front-requires-2
 put-front-requires-2 c κs =
-    let s = c .before .before .before .before .before in
-    omega (arith, s .pre, size-gap (s .args .i) (c .before .enum-told .given .1))
+    let s = c .before .before .before .before .before .before .before in
+    omega (arith, s .pre .0, size-gap (s .args .i) (c .before .enum-told .given .1))
 
 same-length : tie.Need-same-length
 same-length c = c .before .before .put-d .kept .0 ∙ simp length-set (c .before .before .before .before .before .before .before .before .put-front .kept .0)
 
 returns : tie.Need-returns
 returns c =
-    let s = c .before .before .before .before .before .before .before .before .before .before .before .before .before .before .before .before in
+    let s = c .before .before .before .before .before .before .before .before .before .before .before .before .before .before .before .before .before .before in
     let f = c .before .before .before .before .before .before .before .before .before .before .before .before .found in
     let front = c .before .before .before .before .before .before .before .before .put-front in
     let d = c .before .before .put-d in
@@ -71,14 +71,14 @@ returns c =
     let control = c .before .before .before .before .before .control-byte in
     let extended = c .before .before .before .before .extended-byte in
     frame-put (s .args .i) (f .given .0 .0) (s .args .out .now) (front .last .0) (d .last .0) (number .result) (control .result) (extended .result) (f .given .1)
-    (s .pre) (number .ensures) (front .ensures) (control .ensures) (extended .ensures) (d .ensures)
+    (s .pre .0) (number .ensures) (front .ensures) (control .ensures) (extended .ensures) (d .ensures)
 
 same-length-2 : tie.Need-same-length-2
 same-length-2 c = search needs
 
 returns-2 : tie.Need-returns-2
 returns-2 c =
-    let a = c .before .before .before .before .before .before .before .before .args in
+    let a = c .before .before .before .before .before .before .before .before .before .before .args in
     let front = c .before .before .put-front2 in
     gap-put (a .i) (a .out .now) (front .last .0) (c .before .before .before .before .enum-told .given .1) (front .ensures)
 

@@ -12,29 +12,29 @@ use Rattle.record.proofs.put_d.Statement.{statement}
 use Rattle.record.proofs.put_d.Tie as tie
 
 abbrev Inv-loop : tie.InvT-loop
-Inv-loop out₀ bytes n j₀ out j = (j ≤ n) × (length out ≡ length out₀) × (out ≡ paste out₀ 12 bytes j)
+Inv-loop out₀ table plan bytes n j₀ out j = (j ≤ n) × (length out ≡ length out₀) × (out ≡ paste out₀ 12 bytes j)
 
 abbrev μ-loop : tie.MeasureT-loop
-μ-loop out₀ bytes n j₀ out j = 19 - j
+μ-loop out₀ table plan bytes n j₀ out j = 19 - j
 
 d-bytes-requires : tie.Need-d-bytes-requires Inv-loop μ-loop
-d-bytes-requires c κs = search needs
+d-bytes-requires c κs = c .before .before .before .pre .1
 
 d-length-requires : tie.Need-d-length-requires Inv-loop μ-loop
 d-length-requires c κs = search needs
 
 loop-holds : tie.Need-loop-holds Inv-loop μ-loop
-loop-holds c = (omega arith, refl, paste-zero (c .before .before .before .args .out .now) 12 (c .before .d-bytes .result))
+loop-holds c = (omega arith, refl, paste-zero (c .before .before .before .before .before .args .out .now) 12 (c .before .d-bytes .result))
 
 array-read-out : tie.Need-array-read-out Inv-loop μ-loop
 array-read-out c =
     let n = c .before .before .d-length .ensures in
-    omega (arith, d-length-le (c .before .before .before .before .before .args .k))
+    omega (arith, d-length-le (c .before .before .before .before .before .before .before .args .k))
 
 add-out : tie.Need-add-out Inv-loop μ-loop
 add-out c =
     let n = c .before .before .d-length .ensures in
-    omega (arith, d-length-le (c .before .before .before .before .before .args .k))
+    omega (arith, d-length-le (c .before .before .before .before .before .before .before .args .k))
 
 slice-write-out : tie.Need-slice-write-out Inv-loop μ-loop
 slice-write-out c = omega (arith, c .before .before .d-length .ensures)
@@ -45,12 +45,12 @@ add-j c = search needs
 loop-less : tie.Need-loop-less Inv-loop μ-loop
 loop-less c =
     let n = c .before .before .d-length .ensures in
-    omega (arith, d-length-le (c .before .before .before .before .before .args .k))
+    omega (arith, d-length-le (c .before .before .before .before .before .before .before .args .k))
 
 loop-again : tie.Need-loop-again Inv-loop μ-loop
 loop-again c =
     let i = c .before .loop in
-    let a = c .before .before .before .before .before .args in
+    let a = c .before .before .before .before .before .before .before .args in
     let bytes = c .before .before .before .d-bytes .result in
     let l : length bytes ≡ 19 = search needs in
     let n = c .before .before .d-length .ensures in (
@@ -65,7 +65,7 @@ same-length c = c .before .loop .inv .1
 returns : tie.Need-returns Inv-loop μ-loop
 returns c =
     let i = c .before .loop in
-    let a = c .before .before .before .before .before .args in
+    let a = c .before .before .before .before .before .before .before .args in
     let e : i .j ≡ dLength (a .k) = omega (arith, c .before .before .d-length .ensures) in
     let d = c .before .before .before .d-bytes in
     let copied : i .out ≡ paste (a .out .now) 12 (d .result) (dLength (a .k)) = rw e at (i .inv .2) in

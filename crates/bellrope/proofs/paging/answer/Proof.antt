@@ -1,7 +1,6 @@
 -- `bellrope::paging::answer` meets its contract.
 -- Assumes nothing.
 use borrow.Author.Tests.{lt-ltb, le-ltb, eq-eqb, ne-eqb}
-use mathlib.Core.Path.{_≡_, refl, sym, _∙_, ap}
 use borrow.Author.Needs.{needs}
 use Rattle.bellrope.proofs.paging.answer.Statement.{statement}
 use Rattle.bellrope.proofs.paging.answer.Tie as tie

@@ -1,7 +1,6 @@
 -- `bellrope::paging::bellrope_page` meets its contract, for every request there can be.
 -- Assumes nothing.
-use borrow.Author.Tests.{lt-ltb, le-ltb, eq-eqb, ne-eqb}
-use mathlib.Core.Path.{_≡_, refl, sym, _∙_, ap}
+use mathlib.Core.Path.{_≡_}
 use native.Mathlib.Omega.{arith}
 use lib.ListN.{length}
 use Rattle.item.specs.Item.{cursorOf}

@@ -1,10 +1,10 @@
 -- `bellrope::writing::bellrope_write` meets its contract, for every request there can be.
 -- Assumes nothing.
 use mathlib.Core.Path.{refl}
+use Prim.Native.Nat.{_*_}
 use native.Mathlib.Omega.{arith}
 use lib.ListN.{length}
 use Rattle.item.specs.Item.{cursorOf}
-use Prim.Native.Nat.{_*_}
 use Rattle.bellrope.specs.Paging.{cursorAt}
 use Rattle.bellrope.proofs.JudgeLaws.{admits, refused-write, refused-record, all-taken, written-call}
 use borrow.Author.Needs.{needs}
@@ -18,45 +18,89 @@ refuse-requires : tie.Need-refuse-requires
 refuse-requires c κs = search needs
 
 returns : tie.Need-returns
-returns c = refused-write (c .before .before .before .before .before .args .records .now) (c .before .before .before .before .before .args .direction) (c .before .before .before .before .before .args .position) (c .before .before .before .before .before .args .context) (c .before .before .before .before .before .args .buffer .now) (c .before .before .refusal .result) (c .before .before .refusal .ensures) (c .refuse .result) (c .before .if1 .taken) (c .refuse .ensures)
+returns c =
+    let a = c .before .before .before .before .before .args in
+    let r = c .before .before .refusal in
+    refused-write (a .records .now) (a .direction) (a .position) (a .context) (a .buffer .now) (r .result) (r .ensures) (c .refuse .result) (c .before .if1 .taken) (c .refuse .ensures)
 
-cast-t15 : tie.Need-cast-t15
-cast-t15 c =
-    let w = admits (c .before .before .before .before .args .records .now) (c .before .before .before .before .args .direction) (c .before .before .before .before .args .position) (c .before .before .before .before .args .context) (c .before .before .before .before .args .buffer .now) (c .before .refusal .result) (c .before .refusal .ensures) (omega arith) in
-    omega (arith, w .known)
+cast-t18 : tie.Need-cast-t18
+cast-t18 c =
+    let a = c .before .before .before .before .args in
+    let r = c .before .refusal in
+    omega (arith, admits (a .records .now) (a .direction) (a .position) (a .context) (a .buffer .now) (r .result) (r .ensures) (omega arith) .known)
+
+no-masks-requires : tie.Need-no-masks-requires
+no-masks-requires c κs = search needs
+
+table-requires : tie.Need-table-requires
+table-requires c κs = search needs
+
+no-plans-requires : tie.Need-no-plans-requires
+no-plans-requires c κs = search needs
 
 direction-of-requires : tie.Need-direction-of-requires
 direction-of-requires c κs = search needs
 
 mul-judge-all : tie.Need-mul-judge-all
 mul-judge-all c =
-    let w = admits (c .before .before .before .before .before .args .records .now) (c .before .before .before .before .before .args .direction) (c .before .before .before .before .before .args .position) (c .before .before .before .before .before .args .context) (c .before .before .before .before .before .args .buffer .now) (c .before .before .refusal .result) (c .before .before .refusal .ensures) (omega arith) in
-    omega (arith, w .short)
+    let a = c .before .before .before .before .before .before .before .before .args in
+    let r = c .before .before .before .before .before .refusal in
+    omega (arith, admits (a .records .now) (a .direction) (a .position) (a .context) (a .buffer .now) (r .result) (r .ensures) (omega arith) .short)
+
+slice-aggregate-judge-all : tie.Need-slice-aggregate-judge-all
+slice-aggregate-judge-all c = search needs
+
+slice-aggregate-judge-all-2 : tie.Need-slice-aggregate-judge-all-2
+slice-aggregate-judge-all-2 c = search needs
+
+slice-aggregate-judge-all-3 : tie.Need-slice-aggregate-judge-all-3
+slice-aggregate-judge-all-3 c = search needs
 
 judge-all-requires : tie.Need-judge-all-requires
 judge-all-requires c κs =
-    let w = admits (c .before .before .before .before .before .args .records .now) (c .before .before .before .before .before .args .direction) (c .before .before .before .before .before .args .position) (c .before .before .before .before .before .args .context) (c .before .before .before .before .before .args .buffer .now) (c .before .before .refusal .result) (c .before .before .refusal .ensures) (omega arith) in
-    w .few
+    let a = c .before .before .before .before .before .before .before .before .before .before .before .args in
+    let r = c .before .before .before .before .before .before .before .before .refusal in
+    (admits (a .records .now) (a .direction) (a .position) (a .context) (a .buffer .now) (r .result) (r .ensures) (omega arith) .few, c .before .before .before .before .before .before .no-masks .ensures, rw (c .before .before .before .before .before .table .ensures) (c .before .before .before .before .no-plans .ensures))
 
 refuse-requires-2 : tie.Need-refuse-requires-2
 refuse-requires-2 c κs = search needs
 
 returns-2 : tie.Need-returns-2
-returns-2 c = refused-record (c .before .before .before .before .before .before .before .before .before .args .records .now) (c .before .before .before .before .before .before .before .before .before .args .direction) (c .before .before .before .before .before .before .before .before .before .args .position) (c .before .before .before .before .before .before .before .before .before .args .context) (c .before .before .before .before .before .before .before .before .before .args .buffer .now) (c .before .before .before .before .before .before .refusal .result) (c .before .before .before .before .before .before .refusal .ensures) (omega arith) (c .before .before .before .before .direction-of .result) (c .before .before .before .before .direction-of .ensures) (c .before .before .before .judge-all .result .number) (c .before .before .before .judge-all .result .items) (cursorOf (c .before .before .before .judge-all .result .cursor)) (c .before .before .before .judge-all .ensures) (c .refuse2 .result) (c .before .before .before .before .before .before .before .before .before .args .buffer .now) (λ e. omega arith) (c .refuse2 .ensures) refl
+returns-2 c =
+    let a = c .before .before .before .before .before .before .before .before .before .before .before .before .before .before .before .before .before .args in
+    let r = c .before .before .before .before .before .before .before .before .before .before .before .before .before .before .refusal in
+    let way = c .before .before .before .before .before .before .before .before .before .direction-of in
+    let j = c .before .before .before .before .before .judge-all in
+    refused-record (a .records .now) (a .direction) (a .position) (a .context) (a .buffer .now) (r .result) (r .ensures) (c .before .before .before .before .before .before .before .before .before .before .before .before .before .if1 .left) (way .result) (way .ensures) (j .result .number) (j .result .items) (cursorOf (j .result .cursor)) (j .ensures .0) (c .refuse2 .result) (a .buffer .now) (c .before .if2 .taken) (c .refuse2 .ensures) refl
+
+slice-aggregate-put-all : tie.Need-slice-aggregate-put-all
+slice-aggregate-put-all c = search needs
+
+slice-aggregate-put-all-2 : tie.Need-slice-aggregate-put-all-2
+slice-aggregate-put-all-2 c = search needs
 
 put-all-requires : tie.Need-put-all-requires
 put-all-requires c κs =
-    let w = admits (c .before .before .before .before .before .before .before .before .before .args .records .now) (c .before .before .before .before .before .before .before .before .before .args .direction) (c .before .before .before .before .before .before .before .before .before .args .position) (c .before .before .before .before .before .before .before .before .before .args .context) (c .before .before .before .before .before .before .before .before .before .args .buffer .now) (c .before .before .before .before .before .before .refusal .result) (c .before .before .before .before .before .before .refusal .ensures) (omega arith) in
-    (all-taken (c .before .before .before .before .direction-of .result) (8 * length (c .before .before .before .before .before .before .before .before .before .args .buffer .now)) (cursorAt (c .before .before .before .before .before .before .before .before .before .args .position) (c .before .before .before .before .before .before .before .before .before .args .context)) (c .before .before .before .before .before .before .before .before .before .args .records .now) (c .before .before .before .judge-all .result .number) (c .before .before .before .judge-all .result .items) (cursorOf (c .before .before .before .judge-all .result .cursor)) (c .before .before .before .judge-all .ensures) (omega arith), w .few, w .short)
+    let a = c .before .before .before .before .before .before .before .before .before .before .before .before .before .before .before .before .before .before .before .args in
+    let r = c .before .before .before .before .before .before .before .before .before .before .before .before .before .before .before .before .refusal in
+    let way = c .before .before .before .before .before .before .before .before .before .before .before .direction-of in
+    let j = c .before .before .before .before .before .before .before .judge-all in
+    let w = admits (a .records .now) (a .direction) (a .position) (a .context) (a .buffer .now) (r .result) (r .ensures) (c .before .before .before .before .before .before .before .before .before .before .before .before .before .before .before .if1 .left) in
+    (j .ensures .1, all-taken (way .result) (8 * length (a .buffer .now)) (cursorAt (a .position) (a .context)) (a .records .now) (j .result .number) (j .result .items) (cursorOf (j .result .cursor)) (j .ensures .0) (c .before .before .before .if2 .left), w .few, w .short)
 
-cast-t21 : tie.Need-cast-t21
-cast-t21 c = search needs
+cast-t37 : tie.Need-cast-t37
+cast-t37 c = search needs
 
 same-length : tie.Need-same-length
 same-length c = search needs
 
 returns-3 : tie.Need-returns-3
-returns-3 c = written-call (c .before .before .before .before .before .before .before .before .before .before .before .before .before .args .records .now) (c .before .before .before .before .before .before .before .before .before .before .before .before .before .args .direction) (c .before .before .before .before .before .before .before .before .before .before .before .before .before .args .position) (c .before .before .before .before .before .before .before .before .before .before .before .before .before .args .context) (c .before .before .before .before .before .before .before .before .before .before .before .before .before .args .buffer .now) (c .before .before .before .before .before .before .before .before .before .before .refusal .result) (c .before .before .before .before .before .before .before .before .before .before .refusal .ensures) (omega arith) (c .before .before .before .before .before .before .before .before .direction-of .result) (c .before .before .before .before .before .before .before .before .direction-of .ensures) (c .before .before .before .before .before .before .before .judge-all .result .number) (c .before .before .before .before .before .before .before .judge-all .result .items) (cursorOf (c .before .before .before .before .before .before .before .judge-all .result .cursor)) (c .before .before .before .before .before .before .before .judge-all .ensures) _ (c .before .before .before .put-all .last .1 .0) (omega arith) (c .before .before .before .put-all .ensures) refl
+returns-3 c =
+    let a = c .before .before .before .before .before .before .before .before .before .before .before .before .before .before .before .before .before .before .before .before .before .before .before .before .args in
+    let r = c .before .before .before .before .before .before .before .before .before .before .before .before .before .before .before .before .before .before .before .before .before .refusal in
+    let way = c .before .before .before .before .before .before .before .before .before .before .before .before .before .before .before .before .direction-of in
+    let j = c .before .before .before .before .before .before .before .before .before .before .before .before .judge-all in
+    written-call (a .records .now) (a .direction) (a .position) (a .context) (a .buffer .now) (r .result) (r .ensures) (c .before .before .before .before .before .before .before .before .before .before .before .before .before .before .before .before .before .before .before .before .if1 .left) (way .result) (way .ensures) (j .result .number) (j .result .items) (cursorOf (j .result .cursor)) (j .ensures .0) _ (c .before .before .before .before .put-all .last .1 .1 .1 .0) (c .before .before .before .before .before .before .before .before .if2 .left) (c .before .before .before .before .put-all .ensures) refl
 
 pub bellrope-write-spec : {M : Type 1} → statement M
 bellrope-write-spec =
@@ -65,13 +109,21 @@ bellrope-write-spec =
     refusal-requires
     refuse-requires
     returns
-    cast-t15
+    cast-t18
+    no-masks-requires
+    table-requires
+    no-plans-requires
     direction-of-requires
     mul-judge-all
+    slice-aggregate-judge-all
+    slice-aggregate-judge-all-2
+    slice-aggregate-judge-all-3
     judge-all-requires
     refuse-requires-2
     returns-2
+    slice-aggregate-put-all
+    slice-aggregate-put-all-2
     put-all-requires
-    cast-t21
+    cast-t37
     same-length
     returns-3)

@@ -1,9 +1,10 @@
 -- `drawings::cell::cell_at` meets its contract.
 -- Assumes nothing.
-use mathlib.Core.Path.{_≡_}
+use mathlib.Core.Path.{_≡_, refl}
 use borrow.Author.Tests.{lt-ltb, le-ltb}
 use Rattle.channel.specs.declared.Pattern.the-variants.{Hr, Low, P670, P740}
 use Rattle.channel.specs.Kinds.{patternOf}
+use Rattle.channel.specs.Places.{zerosOf, onesOf}
 use Rattle.drawings.proofs.CellLaws.{cell-is, pattern-by}
 use borrow.Author.Needs.{needs}
 use Rattle.drawings.proofs.cell.cell_at.Statement.{statement}
@@ -42,7 +43,8 @@ returns c =
     let n = c .before .before .before .before .before .number in
     let sync = c .sync-cell in
     let of-kind : patternOf (a .k) ≡ Hr = rw (pattern-by (a .k) (n .result) (n .ensures), lt-ltb (n .result) 5 (c .before .before .before .before .if1 .taken)) in
-    cell-is (a .k) (a .p) Hr (tail .result) (d .result) (beside .result) (sync .result) of-kind (tail .ensures) (d .ensures) (beside .ensures) (sync .ensures)
+    cell-is (a .k) (a .p) Hr (tail .result) (d .result) (beside .result) (sync .result) of-kind (tail .ensures) (d .ensures) (beside .ensures)
+    (sync .ensures (zerosOf Hr) (onesOf Hr) (record { mask-is = refl; fixed-is = refl; inside = refl; apart = refl }))
 
 slice-aggregate-sync-cell-4 : tie.Need-slice-aggregate-sync-cell-4
 slice-aggregate-sync-cell-4 c = search needs
@@ -65,7 +67,8 @@ returns-2 c =
     let n = c .before .before .before .before .before .before .number in
     let sync = c .sync-cell2 in
     let of-kind : patternOf (a .k) ≡ Low = rw (pattern-by (a .k) (n .result) (n .ensures), le-ltb (n .result) 5 (c .before .before .before .before .before .if1 .left), lt-ltb (n .result) 7 (c .before .before .before .before .if2 .taken)) in
-    cell-is (a .k) (a .p) Low (tail .result) (d .result) (beside .result) (sync .result) of-kind (tail .ensures) (d .ensures) (beside .ensures) (sync .ensures)
+    cell-is (a .k) (a .p) Low (tail .result) (d .result) (beside .result) (sync .result) of-kind (tail .ensures) (d .ensures) (beside .ensures)
+    (sync .ensures (zerosOf Low) (onesOf Low) (record { mask-is = refl; fixed-is = refl; inside = refl; apart = refl }))
 
 slice-aggregate-sync-cell-7 : tie.Need-slice-aggregate-sync-cell-7
 slice-aggregate-sync-cell-7 c = search needs
@@ -88,7 +91,8 @@ returns-3 c =
     let n = c .before .before .before .before .before .before .before .number in
     let sync = c .sync-cell3 in
     let of-kind : patternOf (a .k) ≡ P670 = rw (pattern-by (a .k) (n .result) (n .ensures), le-ltb (n .result) 5 (c .before .before .before .before .before .before .if1 .left), le-ltb (n .result) 7 (c .before .before .before .before .before .if2 .left), lt-ltb (n .result) 8 (c .before .before .before .before .if3 .taken)) in
-    cell-is (a .k) (a .p) P670 (tail .result) (d .result) (beside .result) (sync .result) of-kind (tail .ensures) (d .ensures) (beside .ensures) (sync .ensures)
+    cell-is (a .k) (a .p) P670 (tail .result) (d .result) (beside .result) (sync .result) of-kind (tail .ensures) (d .ensures) (beside .ensures)
+    (sync .ensures (zerosOf P670) (onesOf P670) (record { mask-is = refl; fixed-is = refl; inside = refl; apart = refl }))
 
 slice-aggregate-sync-cell-10 : tie.Need-slice-aggregate-sync-cell-10
 slice-aggregate-sync-cell-10 c = search needs
@@ -111,7 +115,8 @@ returns-4 c =
     let n = c .before .before .before .before .before .before .before .number in
     let sync = c .sync-cell4 in
     let of-kind : patternOf (a .k) ≡ P740 = rw (pattern-by (a .k) (n .result) (n .ensures), le-ltb (n .result) 5 (c .before .before .before .before .before .before .if1 .left), le-ltb (n .result) 7 (c .before .before .before .before .before .if2 .left), le-ltb (n .result) 8 (c .before .before .before .before .if3 .left)) in
-    cell-is (a .k) (a .p) P740 (tail .result) (d .result) (beside .result) (sync .result) of-kind (tail .ensures) (d .ensures) (beside .ensures) (sync .ensures)
+    cell-is (a .k) (a .p) P740 (tail .result) (d .result) (beside .result) (sync .result) of-kind (tail .ensures) (d .ensures) (beside .ensures)
+    (sync .ensures (zerosOf P740) (onesOf P740) (record { mask-is = refl; fixed-is = refl; inside = refl; apart = refl }))
 
 pub cell-at-spec : {M : Type 1} → statement M
 cell-at-spec =

@@ -2,63 +2,55 @@
 -- Assumes nothing.
 use mathlib.Core.Path.{sym, _∙_}
 use Prim.Native.Nat.{_+_}
+use Rattle.drawings.specs.declared.cell.Cell.the-variants.{C}
+use Rattle.drawings.proofs.CellLaws.{named-in, named-out, sync-one, sync-zero, sync-none}
 use borrow.Author.Needs.{needs}
-use Rattle.drawings.specs.declared.cell.Cell.the-variants.{Zero, One, C}
-use Rattle.drawings.specs.Cells.{named}
-use Rattle.drawings.proofs.CellLaws.{named-in, named-out}
 use Rattle.drawings.proofs.cell.sync_cell.Statement.{statement}
 use Rattle.drawings.proofs.cell.sync_cell.Tie as tie
+
+bit-in-requires : tie.Need-bit-in-requires
+bit-in-requires c κs = search needs
+
+bit-in-requires-2 : tie.Need-bit-in-requires-2
+bit-in-requires-2 c κs = search needs
+
+returns : tie.Need-returns
+returns c = λ zeros ones by.
+    let a = c .before .before .before .before .before .before .before .args in
+    sync-one zeros ones (a .mask .now) (a .fixed .now) (a .cs .now) (a .p) (a .other) by (c .before .before .before .before .before .before .before .pre .0) (sym (c .before .before .before .bit-in .ensures) ∙ c .before .before .if1 .taken) (sym (c .before .bit-in2 .ensures) ∙ c .if2 .taken)
+
+returns-2 : tie.Need-returns-2
+returns-2 c = λ zeros ones by.
+    let a = c .before .before .before .before .before .before .before .args in
+    sync-zero zeros ones (a .mask .now) (a .fixed .now) (a .cs .now) (a .p) (a .other) by (c .before .before .before .before .before .before .before .pre .0) (sym (c .before .before .before .bit-in .ensures) ∙ c .before .before .if1 .taken) (sym (c .before .bit-in2 .ensures) ∙ c .if2 .left)
 
 index-in-requires : tie.Need-index-in-requires
 index-in-requires c κs = search needs
 
-returns : tie.Need-returns
-returns c =
-    let a = c .before .before .before .before .before .args in
-    let z = c .before .index-in in
-    sym (named-in (a .zeros .now) (λ j. Zero) (a .p) (z .result) (named (a .ones .now) (λ j. One) (a .p) (named (a .cs .now) (λ j. C (j + 1)) (a .p) (a .other))) (z .ensures) (c .if1 .taken))
-
-index-in-requires-2 : tie.Need-index-in-requires-2
-index-in-requires-2 c κs = search needs
-
-returns-2 : tie.Need-returns-2
-returns-2 c =
-    let a = c .before .before .before .before .before .before .before .args in
-    let z = c .before .before .before .index-in in
-    let o = c .before .index-in2 in
-    sym (named-out (a .zeros .now) (λ j. Zero) (a .p) (z .result) (named (a .ones .now) (λ j. One) (a .p) (named (a .cs .now) (λ j. C (j + 1)) (a .p) (a .other))) (z .ensures) (c .before .before .if1 .left) ∙ named-in (a .ones .now) (λ j. One) (a .p) (o .result) (named (a .cs .now) (λ j. C (j + 1)) (a .p) (a .other)) (o .ensures) (c .if2 .taken))
-
-index-in-requires-3 : tie.Need-index-in-requires-3
-index-in-requires-3 c κs = search needs
-
-add-t10 : tie.Need-add-t10
-add-t10 c = search needs
+add-t12 : tie.Need-add-t12
+add-t12 c = search needs
 
 returns-3 : tie.Need-returns-3
-returns-3 c =
-    let a = c .before .before .before .before .before .before .before .before .before .args in
-    let z = c .before .before .before .before .before .index-in in
-    let o = c .before .before .before .index-in2 in
-    let i = c .before .index-in3 in
-    sym (named-out (a .zeros .now) (λ j. Zero) (a .p) (z .result) (named (a .ones .now) (λ j. One) (a .p) (named (a .cs .now) (λ j. C (j + 1)) (a .p) (a .other))) (z .ensures) (c .before .before .before .before .if1 .left) ∙ named-out (a .ones .now) (λ j. One) (a .p) (o .result) (named (a .cs .now) (λ j. C (j + 1)) (a .p) (a .other)) (o .ensures) (c .before .before .if2 .left) ∙ named-in (a .cs .now) (λ j. C (j + 1)) (a .p) (i .result) (a .other) (i .ensures) (c .if3 .taken))
+returns-3 c = λ zeros ones by.
+    let a = c .before .before .before .before .before .before .before .args in
+    let i = c .before .index-in in
+    sym (sync-none zeros ones (a .mask .now) (a .fixed .now) (a .cs .now) (a .p) (a .other) by (c .before .before .before .before .before .before .before .pre .0) (sym (c .before .before .before .bit-in .ensures) ∙ c .before .before .if1 .left) ∙ named-in (a .cs .now) (λ j. C (j + 1)) (a .p) (i .result) (a .other) (i .ensures) (c .if3 .taken))
 
 returns-4 : tie.Need-returns-4
-returns-4 c =
-    let a = c .before .before .before .before .before .before .before .before .before .args in
-    let z = c .before .before .before .before .before .index-in in
-    let o = c .before .before .before .index-in2 in
-    let i = c .before .index-in3 in
-    sym (named-out (a .zeros .now) (λ j. Zero) (a .p) (z .result) (named (a .ones .now) (λ j. One) (a .p) (named (a .cs .now) (λ j. C (j + 1)) (a .p) (a .other))) (z .ensures) (c .before .before .before .before .if1 .left) ∙ named-out (a .ones .now) (λ j. One) (a .p) (o .result) (named (a .cs .now) (λ j. C (j + 1)) (a .p) (a .other)) (o .ensures) (c .before .before .if2 .left) ∙ named-out (a .cs .now) (λ j. C (j + 1)) (a .p) (i .result) (a .other) (i .ensures) (c .if3 .left))
+returns-4 c = λ zeros ones by.
+    let a = c .before .before .before .before .before .before .before .args in
+    let i = c .before .index-in in
+    sym (sync-none zeros ones (a .mask .now) (a .fixed .now) (a .cs .now) (a .p) (a .other) by (c .before .before .before .before .before .before .before .pre .0) (sym (c .before .before .before .bit-in .ensures) ∙ c .before .before .if1 .left) ∙ named-out (a .cs .now) (λ j. C (j + 1)) (a .p) (i .result) (a .other) (i .ensures) (c .if3 .left))
 
 pub sync-cell-spec : {M : Type 1} → statement M
 sync-cell-spec =
     tie.close
     (tie.spec
-    index-in-requires
+    bit-in-requires
+    bit-in-requires-2
     returns
-    index-in-requires-2
     returns-2
-    index-in-requires-3
-    add-t10
+    index-in-requires
+    add-t12
     returns-3
     returns-4)

@@ -1,21 +1,20 @@
 -- `frame::coding::kind_of` meets its contract: the kind of the pattern that holds.
 -- Assumes nothing.
-use Rattle.channel.specs.declared.Pattern.the-variants.{P670, P740}
+use mathlib.Core.Path.{refl}
+use Rattle.bits.specs.Bit.{bitAt}
+use Rattle.channel.specs.declared.Pattern.the-variants.{Hr, Low, P670, P740}
 use Rattle.channel.specs.declared.Kind.the-variants.{Amr670, Amr740}
 use Rattle.frame.specs.declared.coding.Found.the-variants.{Is}
-use Rattle.frame.proofs.CodingLaws.{held-in, held-nowhere}
-use mathlib.Core.Path.{_≡_, refl, sym, _∙_, ap}
-use native.Mathlib.Omega.{arith}
-use borrow.Author.Tests.{eq-eqb, ne-eqb}
-use Rattle.bits.specs.Bit.{bitAt}
-use Rattle.channel.specs.Coding.{bitsAt}
-use Rattle.channel.specs.Places.{xcPlaces, cPlaces}
-use Rattle.channel.specs.Coding.{speechXc}
-use Rattle.channel.specs.declared.Pattern.the-variants.{Hr, Low}
-use Rattle.frame.proofs.CodingLaws.{kind-in, kind-nowhere}
+use Rattle.frame.proofs.CodingLaws.{held-in, held-nowhere, kind-in, kind-nowhere}
 use borrow.Author.Needs.{needs}
 use Rattle.frame.proofs.coding.kind_of.Statement.{statement}
 use Rattle.frame.proofs.coding.kind_of.Tie as tie
+
+slice-aggregate-words-of : tie.Need-slice-aggregate-words-of
+slice-aggregate-words-of c = search needs
+
+words-of-requires : tie.Need-words-of-requires
+words-of-requires c κs = search needs
 
 pattern-of-requires : tie.Need-pattern-of-requires
 pattern-of-requires c κs = search needs
@@ -46,42 +45,48 @@ enum-told-5 c = search needs
 
 returns : tie.Need-returns
 returns c =
-    let a = c .before .before .before .before .before .before .before .args in
-    let the-pattern-of = c .before .before .before .before .before .before .pattern-of in
-    let the-t = c .before .before .before .before .t in
-    kind-in (a .d) (bitAt (a .o)) Hr (c .hr-kind .result) (held-in (bitAt (a .o)) (the-pattern-of .result) (the-t .given .0 .0) Hr (the-pattern-of .ensures) (the-t .given .1) (c .before .enum-told .given .1)) (c .hr-kind .ensures)
+    let a = c .before .before .before .before .before .before .before .before .before .args in
+    let p = c .before .before .before .before .before .before .pattern-of in
+    let w = c .before .before .before .before .before .before .before .words-of in
+    let t = c .before .before .before .before .t in
+    kind-in (a .d) (bitAt (a .t1)) Hr (c .hr-kind .result) (held-in (bitAt (a .t1)) (p .result) (t .given .0 .0) Hr (p .ensures (a .t1) (w .ensures)) (t .given .1) (c .before .enum-told .given .1)) (c .hr-kind .ensures (a .t1) (w .ensures))
 
 returns-2 : tie.Need-returns-2
 returns-2 c =
-    let a = c .before .before .before .before .before .before .before .args in
-    let the-pattern-of = c .before .before .before .before .before .before .pattern-of in
-    let the-t = c .before .before .before .before .t in
-    kind-in (a .d) (bitAt (a .o)) Low (c .low-kind .result) (held-in (bitAt (a .o)) (the-pattern-of .result) (the-t .given .0 .0) Low (the-pattern-of .ensures) (the-t .given .1) (c .before .enum-told2 .given .1)) (c .low-kind .ensures)
+    let a = c .before .before .before .before .before .before .before .before .before .args in
+    let p = c .before .before .before .before .before .before .pattern-of in
+    let w = c .before .before .before .before .before .before .before .words-of in
+    let t = c .before .before .before .before .t in
+    kind-in (a .d) (bitAt (a .t1)) Low (c .low-kind .result) (held-in (bitAt (a .t1)) (p .result) (t .given .0 .0) Low (p .ensures (a .t1) (w .ensures)) (t .given .1) (c .before .enum-told2 .given .1)) (c .low-kind .ensures (a .t1) (w .ensures))
 
 returns-3 : tie.Need-returns-3
 returns-3 c =
-    let a = c .before .before .before .before .before .before .args in
-    let the-pattern-of = c .before .before .before .before .before .pattern-of in
-    let the-t = c .before .before .before .t in
-    kind-in (a .d) (bitAt (a .o)) P670 (Is Amr670) (held-in (bitAt (a .o)) (the-pattern-of .result) (the-t .given .0 .0) P670 (the-pattern-of .ensures) (the-t .given .1) (c .enum-told3 .given .1)) (refl, refl)
+    let a = c .before .before .before .before .before .before .before .before .args in
+    let p = c .before .before .before .before .before .pattern-of in
+    let w = c .before .before .before .before .before .before .words-of in
+    let t = c .before .before .before .t in
+    kind-in (a .d) (bitAt (a .t1)) P670 (Is Amr670) (held-in (bitAt (a .t1)) (p .result) (t .given .0 .0) P670 (p .ensures (a .t1) (w .ensures)) (t .given .1) (c .enum-told3 .given .1)) (refl, refl)
 
 returns-4 : tie.Need-returns-4
 returns-4 c =
-    let a = c .before .before .before .before .before .before .args in
-    let the-pattern-of = c .before .before .before .before .before .pattern-of in
-    let the-t = c .before .before .before .t in
-    kind-in (a .d) (bitAt (a .o)) P740 (Is Amr740) (held-in (bitAt (a .o)) (the-pattern-of .result) (the-t .given .0 .0) P740 (the-pattern-of .ensures) (the-t .given .1) (c .enum-told4 .given .1)) (refl, refl)
+    let a = c .before .before .before .before .before .before .before .before .args in
+    let p = c .before .before .before .before .before .pattern-of in
+    let w = c .before .before .before .before .before .before .words-of in
+    let t = c .before .before .before .t in
+    kind-in (a .d) (bitAt (a .t1)) P740 (Is Amr740) (held-in (bitAt (a .t1)) (p .result) (t .given .0 .0) P740 (p .ensures (a .t1) (w .ensures)) (t .given .1) (c .enum-told4 .given .1)) (refl, refl)
 
 returns-5 : tie.Need-returns-5
 returns-5 c =
-    let a = c .before .before .before .args in
-    let the-pattern-of = c .before .before .pattern-of in
-    kind-nowhere (a .d) (bitAt (a .o)) (held-nowhere (bitAt (a .o)) (the-pattern-of .result) (the-pattern-of .ensures) (c .enum-told5 .given .1))
+    let a = c .before .before .before .before .before .args in
+    let p = c .before .before .pattern-of in
+    kind-nowhere (a .d) (bitAt (a .t1)) (held-nowhere (bitAt (a .t1)) (p .result) (p .ensures (a .t1) (c .before .before .before .words-of .ensures)) (c .enum-told5 .given .1))
 
 pub kind-of-spec : {M : Type 1} → statement M
 kind-of-spec =
     tie.close
     (tie.spec
+    slice-aggregate-words-of
+    words-of-requires
     pattern-of-requires
     enum-known-t
     enum-told

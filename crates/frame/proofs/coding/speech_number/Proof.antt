@@ -1,14 +1,7 @@
 -- `frame::coding::speech_number` meets its contract.
 -- Assumes nothing.
 use Prim.Native.Nat.{_/_}
-use Rattle.channel.specs.declared.Direction.the-variants.{Uplink, Downlink}
-use Rattle.channel.specs.Places.{elem}
-use Rattle.channel.specs.Coding.{speechXc}
-use mathlib.Core.Path.{_≡_, refl, sym, _∙_, ap}
-use native.Mathlib.Omega.{arith}
 use borrow.Author.Tests.{eq-eqb, ne-eqb}
-use Rattle.bits.specs.Bit.{bitAt}
-use Rattle.channel.specs.Coding.{bitsAt}
 use Rattle.frame.proofs.CodingLaws.{up-number, down-number}
 use borrow.Author.Needs.{needs}
 use Rattle.frame.proofs.coding.speech_number.Statement.{statement}

@@ -1,53 +1,36 @@
--- `frame::coding::speech_xc` meets its contract.
+-- `frame::coding::speech_xc` meets its contract: parity, then the number of XC1..XC5.
 -- Assumes nothing.
-use mathlib.Core.Path.{_≡_, refl, sym, _∙_, ap}
+use mathlib.Core.Path.{sym, _∙_}
 use native.Mathlib.Omega.{arith}
-use borrow.Author.Tests.{eq-eqb, ne-eqb}
 use Rattle.bits.specs.Bit.{bitAt}
-use Rattle.channel.specs.Coding.{bitsAt}
-use Rattle.channel.specs.Places.{xcPlaces, cPlaces}
-use Rattle.channel.specs.Coding.{speechXc}
-use Rattle.channel.specs.declared.Pattern.the-variants.{Hr, Low}
+use Rattle.channel.specs.Places.{xcPlaces}
+use Rattle.channel.specs.Coding.{bitsAt, speechXc}
 use Rattle.word.proofs.WordLaws.{odd-packed}
-use Rattle.frame.proofs.CodingLaws.{listed-below, xc-lt, xc-odd, xc-even}
+use Rattle.frame.proofs.CodingLaws.{xc-odd, xc-even}
 use borrow.Author.Needs.{needs}
 use Rattle.frame.proofs.coding.speech_xc.Statement.{statement}
 use Rattle.frame.proofs.coding.speech_xc.Tie as tie
 
-slice-aggregate-packed : tie.Need-slice-aggregate-packed
-slice-aggregate-packed c = search needs
-
-packed-requires : tie.Need-packed-requires
-packed-requires c κs = (listed-below 160 xcPlaces tt, omega arith)
+xc-field-requires : tie.Need-xc-field-requires
+xc-field-requires c κs = search needs
 
 odd-ones-requires : tie.Need-odd-ones-requires
 odd-ones-requires c κs = search needs
 
 speech-number-requires : tie.Need-speech-number-requires
-speech-number-requires c κs =
-    let the-packed = c .before .before .packed in
-    xc-lt (bitAt (c .before .before .before .before .args .o)) (the-packed .result) (the-packed .ensures)
+speech-number-requires c κs = omega (arith, c .before .before .xc-field .ensures .0)
 
 returns : tie.Need-returns
-returns c =
-    let a = c .before .before .before .before .before .args in
-    let the-packed = c .before .before .before .packed in
-    let the-odd-ones = c .before .before .odd-ones in
-    c .speech-number .ensures ∙ xc-odd (bitAt (a .o)) (the-packed .result) (the-packed .ensures) (speechXc (a .d)) (sym (odd-packed (the-packed .result) (the-odd-ones .result) (bitsAt (bitAt (a .o)) xcPlaces) (the-odd-ones .ensures) (the-packed .ensures)) ∙ c .before .if1 .taken)
+returns c = λ o h.
+    let x = c .before .before .before .xc-field in
+    c .speech-number .ensures ∙ xc-odd (bitAt o) (x .result) (x .ensures .1 o h) (speechXc (c .before .before .before .before .args .d)) (sym (odd-packed (x .result) (c .before .before .odd-ones .result) (bitsAt (bitAt o) xcPlaces) (c .before .before .odd-ones .ensures) (x .ensures .1 o h)) ∙ c .before .if1 .taken)
 
 returns-2 : tie.Need-returns-2
-returns-2 c =
-    let a = c .before .before .before .before .args in
-    let the-packed = c .before .before .packed in
-    xc-even (bitAt (a .o)) (the-packed .result) (the-packed .ensures) (speechXc (a .d)) (sym (odd-packed (the-packed .result) (c .before .odd-ones .result) (bitsAt (bitAt (a .o)) xcPlaces) (c .before .odd-ones .ensures) (the-packed .ensures)) ∙ c .if1 .left)
+returns-2 c = λ o h.
+    let x = c .before .before .xc-field in
+    xc-even (bitAt o) (x .result) (x .ensures .1 o h) (speechXc (c .before .before .before .args .d)) (sym (odd-packed (x .result) (c .before .odd-ones .result) (bitsAt (bitAt o) xcPlaces) (c .before .odd-ones .ensures) (x .ensures .1 o h)) ∙ c .if1 .left)
 
 pub speech-xc-spec : {M : Type 1} → statement M
 speech-xc-spec =
     tie.close
-    (tie.spec
-    slice-aggregate-packed
-    packed-requires
-    odd-ones-requires
-    speech-number-requires
-    returns
-    returns-2)
+    (tie.spec xc-field-requires odd-ones-requires speech-number-requires returns returns-2)

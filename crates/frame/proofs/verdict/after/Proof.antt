@@ -1,9 +1,7 @@
 -- `frame::verdict::after` meets its contract: a kind 6 leaves the mode that its own C bits name.
 -- Assumes nothing.
-use mathlib.Core.Path.{_≡_, refl, sym, _∙_, ap}
+use mathlib.Core.Path.{ap}
 use Prim.Native.Nat.{ℕ, _+_}
-use native.Mathlib.Omega.{arith}
-use Rattle.bits.specs.Bit.{bitAt}
 use borrow.Author.Needs.{needs}
 use Rattle.frame.proofs.verdict.after.Statement.{statement}
 use Rattle.frame.proofs.verdict.after.Tie as tie
@@ -26,8 +24,14 @@ enum-told-5 c = search needs
 enum-told-6 : tie.Need-enum-told-6
 enum-told-6 c = search needs
 
-modes-in-requires : tie.Need-modes-in-requires
-modes-in-requires c κs = search needs
+slice-aggregate-words-of : tie.Need-slice-aggregate-words-of
+slice-aggregate-words-of c = search needs
+
+words-of-requires : tie.Need-words-of-requires
+words-of-requires c κs = search needs
+
+own-mode-requires : tie.Need-own-mode-requires
+own-mode-requires c κs = search needs
 
 add-result : tie.Need-add-result
 add-result c = search needs
@@ -54,7 +58,7 @@ returns-5 : tie.Need-returns-5
 returns-5 c = rw (c .enum-told5 .given .1)
 
 returns-6 : tie.Need-returns-6
-returns-6 c = rw (c .before .before .enum-told6 .given .1) (ap (λ (m : ℕ). 2 + m) (c .before .modes-in .ensures .named))
+returns-6 c = rw (c .before .before .before .enum-told6 .given .1) (ap (λ (m : ℕ). 2 + m) (c .own-mode .ensures .1 (c .before .before .before .before .before .args .t1) (c .before .words-of .ensures)))
 
 returns-7 : tie.Need-returns-7
 returns-7 c = rw (c .enum-told7 .given .1)
@@ -72,7 +76,9 @@ after-spec =
     enum-told-4
     enum-told-5
     enum-told-6
-    modes-in-requires
+    slice-aggregate-words-of
+    words-of-requires
+    own-mode-requires
     add-result
     enum-told-7
     enum-told-8

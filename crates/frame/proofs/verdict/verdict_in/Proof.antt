@@ -1,32 +1,27 @@
--- `frame::verdict::verdict_in` meets its contract: each CRC by the list of the definition.
+-- `frame::verdict::verdict_in` meets its contract: the CRCs of a kind are among the covered lists.
 -- Assumes nothing.
-use mathlib.Core.Path.{_≡_, refl, sym, _∙_, ap}
-use native.Mathlib.Omega.{arith}
+use mathlib.Core.Path.{refl}
 use Rattle.bits.specs.Bit.{bitAt}
-use mathlib.Core.List.{[]}
-use lib.ListN.{getD}
 use Rattle.channel.specs.declared.Kind.the-variants.{Speech, Amr670, Amr740}
-use Rattle.channel.specs.Places.{dPlaces}
 use Rattle.channel.specs.Checks.{checks}
 use Rattle.channel.specs.Verdict.{verdictOf}
-use Rattle.frame.proofs.CodingLaws.{listed-covered}
-use Rattle.frame.proofs.VerdictLaws.{one-verdict, lower-verdict}
+use Rattle.frame.specs.Kept.{covered}
+use Rattle.frame.proofs.VerdictLaws.{own-verdict, lower-verdict}
 use borrow.Author.Needs.{needs}
 use Rattle.frame.proofs.verdict.verdict_in.Statement.{statement}
 use Rattle.frame.proofs.verdict.verdict_in.Tie as tie
 
+slice-aggregate-words-of : tie.Need-slice-aggregate-words-of
+slice-aggregate-words-of c = search needs
+
+words-of-requires : tie.Need-words-of-requires
+words-of-requires c κs = search needs
+
 enum-told : tie.Need-enum-told
 enum-told c = search needs
 
-slice-aggregate-crc-right : tie.Need-slice-aggregate-crc-right
-slice-aggregate-crc-right c = search needs
-
-crc-right-requires : tie.Need-crc-right-requires
-unfolding dPlaces checks
-crc-right-requires c κs = listed-covered (getD (checks 0 Speech) 0 []) tt
-
-wrong-requires : tie.Need-wrong-requires
-wrong-requires c κs = search needs
+one-wrong-requires : tie.Need-one-wrong-requires
+one-wrong-requires c κs = search needs
 
 enum-told-2 : tie.Need-enum-told-2
 enum-told-2 c = search needs
@@ -43,97 +38,108 @@ enum-told-5 c = search needs
 enum-told-6 : tie.Need-enum-told-6
 enum-told-6 c = search needs
 
-modes-in-requires : tie.Need-modes-in-requires
-modes-in-requires c κs = search needs
+mode-in-requires : tie.Need-mode-in-requires
+mode-in-requires c κs = search needs
 
 lower-verdict-requires : tie.Need-lower-verdict-requires
-lower-verdict-requires c κs = c .modes-in .ensures .checked-few
+lower-verdict-requires c κs = search needs
 
 enum-told-7 : tie.Need-enum-told-7
 enum-told-7 c = search needs
 
-slice-aggregate-crc-right-2 : tie.Need-slice-aggregate-crc-right-2
-slice-aggregate-crc-right-2 c = search needs
-
-crc-right-requires-2 : tie.Need-crc-right-requires-2
-unfolding dPlaces checks
-crc-right-requires-2 c κs = listed-covered (getD (checks 0 Amr670) 0 []) tt
-
-wrong-requires-2 : tie.Need-wrong-requires-2
-wrong-requires-2 c κs = search needs
+one-wrong-requires-2 : tie.Need-one-wrong-requires-2
+one-wrong-requires-2 c κs = search needs
 
 enum-told-8 : tie.Need-enum-told-8
 enum-told-8 c = search needs
 
-slice-aggregate-crc-right-3 : tie.Need-slice-aggregate-crc-right-3
-slice-aggregate-crc-right-3 c = search needs
+one-wrong-requires-3 : tie.Need-one-wrong-requires-3
+one-wrong-requires-3 c κs = search needs
 
-crc-right-requires-3 : tie.Need-crc-right-requires-3
-unfolding dPlaces checks
-crc-right-requires-3 c κs = listed-covered (getD (checks 0 Amr740) 0 []) tt
-
-wrong-requires-3 : tie.Need-wrong-requires-3
-wrong-requires-3 c κs = search needs
+same-length : tie.Need-same-length
+same-length c = search needs
 
 returns : tie.Need-returns
-unfolding dPlaces checks
-returns c = rw (c .before .before .before .enum-told .given .1) (c .wrong .ensures .0 ∙ one-verdict (c .before .before .before .before .before .args .x) (bitAt (c .before .before .before .before .before .args .o)) Speech (getD (checks 0 Speech) 0 []) (c .before .crc-right .result) refl refl refl (c .before .crc-right .ensures))
+unfolding covered checks
+returns c =
+    let a = c .before .before .before .before .before .before .before .before .before .args in
+    let x = c .before .before .one-wrong in
+    (rw (c .before .before .before .before .enum-told .given .1) (own-verdict (a .x) (bitAt (a .t1)) Speech (x .result) refl refl (x .ensures .2 (a .t1) (c .before .before .before .before .before .before .words-of .ensures))), x .ensures .0)
 
 returns-2 : tie.Need-returns-2
 unfolding verdictOf checks
-returns-2 c = rw (c .enum-told2 .given .1)
+returns-2 c = (rw (c .enum-told2 .given .1), c .before .before .before .before .before .pre)
 
 returns-3 : tie.Need-returns-3
 unfolding verdictOf checks
-returns-3 c = rw (c .enum-told3 .given .1)
+returns-3 c = (rw (c .enum-told3 .given .1), c .before .before .before .before .before .pre)
 
 returns-4 : tie.Need-returns-4
 unfolding verdictOf checks
-returns-4 c = rw (c .enum-told4 .given .1)
+returns-4 c = (rw (c .enum-told4 .given .1), c .before .before .before .before .before .pre)
 
 returns-5 : tie.Need-returns-5
 unfolding verdictOf checks
-returns-5 c = rw (c .enum-told5 .given .1)
+returns-5 c = (rw (c .enum-told5 .given .1), c .before .before .before .before .before .pre)
+
+same-length-2 : tie.Need-same-length-2
+same-length-2 c = search needs
 
 returns-6 : tie.Need-returns-6
-returns-6 c = rw (c .before .before .enum-told6 .given .1) (lower-verdict (c .before .before .before .before .args .x) (bitAt (c .before .before .before .before .args .o)) (c .before .modes-in .result .checked) (c .lower-verdict .result) (c .before .modes-in .ensures .used) (c .lower-verdict .ensures))
+returns-6 c =
+    let a = c .before .before .before .before .before .before .before .before .before .before .args in
+    let x = c .before .before .lower-verdict in
+    let m = c .before .before .before .before .mode-in in
+    (rw (c .before .before .before .before .before .enum-told6 .given .1) (lower-verdict (a .x) (bitAt (a .t1)) (m .result) (x .result) (m .ensures .1 (a .t1) (c .before .before .before .before .before .before .before .words-of .ensures)) (x .ensures .1 (a .t1) (c .before .before .before .before .before .before .before .words-of .ensures))), x .ensures .0)
+
+same-length-3 : tie.Need-same-length-3
+same-length-3 c = search needs
 
 returns-7 : tie.Need-returns-7
-unfolding dPlaces checks
-returns-7 c = rw (c .before .before .before .enum-told7 .given .1) (c .wrong2 .ensures .0 ∙ one-verdict (c .before .before .before .before .before .args .x) (bitAt (c .before .before .before .before .before .args .o)) Amr670 (getD (checks 0 Amr670) 0 []) (c .before .crc-right2 .result) refl refl refl (c .before .crc-right2 .ensures))
+unfolding covered checks
+returns-7 c =
+    let a = c .before .before .before .before .before .before .before .before .before .args in
+    let x = c .before .before .one-wrong2 in
+    (rw (c .before .before .before .before .enum-told7 .given .1) (own-verdict (a .x) (bitAt (a .t1)) Amr670 (x .result) refl refl (x .ensures .2 (a .t1) (c .before .before .before .before .before .before .words-of .ensures))), x .ensures .0)
+
+same-length-4 : tie.Need-same-length-4
+same-length-4 c = search needs
 
 returns-8 : tie.Need-returns-8
-unfolding dPlaces checks
-returns-8 c = rw (c .before .before .before .enum-told8 .given .1) (c .wrong3 .ensures .0 ∙ one-verdict (c .before .before .before .before .before .args .x) (bitAt (c .before .before .before .before .before .args .o)) Amr740 (getD (checks 0 Amr740) 0 []) (c .before .crc-right3 .result) refl refl refl (c .before .crc-right3 .ensures))
+unfolding covered checks
+returns-8 c =
+    let a = c .before .before .before .before .before .before .before .before .before .args in
+    let x = c .before .before .one-wrong3 in
+    (rw (c .before .before .before .before .enum-told8 .given .1) (own-verdict (a .x) (bitAt (a .t1)) Amr740 (x .result) refl refl (x .ensures .2 (a .t1) (c .before .before .before .before .before .before .words-of .ensures))), x .ensures .0)
 
 pub verdict-in-spec : {M : Type 1} → statement M
 verdict-in-spec =
     tie.close
     (tie.spec
+    slice-aggregate-words-of
+    words-of-requires
     enum-told
-    slice-aggregate-crc-right
-    crc-right-requires
-    wrong-requires
+    one-wrong-requires
     enum-told-2
     enum-told-3
     enum-told-4
     enum-told-5
     enum-told-6
-    modes-in-requires
+    mode-in-requires
     lower-verdict-requires
     enum-told-7
-    slice-aggregate-crc-right-2
-    crc-right-requires-2
-    wrong-requires-2
+    one-wrong-requires-2
     enum-told-8
-    slice-aggregate-crc-right-3
-    crc-right-requires-3
-    wrong-requires-3
+    one-wrong-requires-3
+    same-length
     returns
     returns-2
     returns-3
     returns-4
     returns-5
+    same-length-2
     returns-6
+    same-length-3
     returns-7
+    same-length-4
     returns-8)

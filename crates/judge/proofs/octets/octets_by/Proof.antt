@@ -49,8 +49,9 @@ with-parities-requires c κs = search needs
 
 returns : tie.Need-returns
 returns c =
-    let a = c .before .before .before .before .before .before .before .before .before .args in
-    built-from (a .part .now) (a .k) (c .before .before .before .before .before .before .before .fixed .result) (c .before .before .before .before .before .with-control .result) (c .before .before .before .with-extended .result) (c .before .with-d .result) (c .with-parities .result) (c .before .before .before .before .before .before .before .before .before .pre) (c .before .before .before .before .before .before .before .fixed .ensures) (c .before .before .before .before .before .with-control .ensures) (c .before .before .before .with-extended .ensures) (c .before .with-d .ensures) (c .with-parities .ensures)
+    let a = c .before .before .before .before .before .before .before .before .before .before .before .args in
+    built-from (a .part .now) (a .k) (c .before .before .before .before .before .before .before .fixed .result) (c .before .before .before .before .before .with-control .result) (c .before .before .before .with-extended .result) (c .before .with-d .result) (c .with-parities .result) (c .before .before .before .before .before .before .before .before .before .before .before .pre .0)
+    (c .before .before .before .before .before .before .before .fixed .ensures) (c .before .before .before .before .before .with-control .ensures) (c .before .before .before .with-extended .ensures) (c .before .with-d .ensures) (c .with-parities .ensures)
 
 pub octets-by-spec : {M : Type 1} → statement M
 octets-by-spec =

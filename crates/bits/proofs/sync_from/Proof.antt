@@ -1,0 +1,142 @@
+-- `bits::sync_from` meets its contract: no place of the bytes passed has eight zeros and a one.
+-- Assumes nothing.
+use mathlib.Core.Path.{_≡_, sym, _∙_}
+use Prim.Native.Nat.{ℕ, _+_, _*_, _-_, _<_, _≤_}
+use native.Mathlib.Omega.{arith}
+use lib.ListN.{getD}
+use borrow.Author.Needs.{needs}
+use borrow.Author.Tests.{eq-eqb}
+use Rattle.bits.proofs.SyncLaws.{odd-none, nil-none, Before, byte-passed, byte-stops}
+use Rattle.bits.proofs.sync_from.Statement.{statement}
+use Rattle.bits.proofs.sync_from.Tie as tie
+use Rattle.bits.proofs.sync_from.Reads as reads
+use Rattle.bits.proofs.sync_from.Lts as lts
+use Rattle.bits.proofs.stands_from.Reads as stands-from-reads
+use Rattle.bits.proofs.sync_in.Reads as sync-in-reads
+
+abbrev Inv-loop : tie.InvT-loop
+Inv-loop s q last i₀ i = (8 * i ≤ last + 8) × Before s q (8 * i)
+
+abbrev μ-loop : tie.MeasureT-loop
+μ-loop s q last i₀ i = last + 9 - 8 * i
+
+loop-holds : tie.Need-loop-holds Inv-loop μ-loop
+loop-holds c = (omega arith, λ r a b h. omega arith)
+
+mul-loop : tie.Need-mul-loop Inv-loop μ-loop
+mul-loop c = search needs
+
+shared-slice-read-a : tie.Need-shared-slice-read-a Inv-loop μ-loop
+shared-slice-read-a c = search needs
+
+add-i : tie.Need-add-i Inv-loop μ-loop
+add-i c = search needs
+
+loop-less : tie.Need-loop-less Inv-loop μ-loop
+loop-less c = search needs
+
+loop-again : tie.Need-loop-again Inv-loop μ-loop
+loop-again c =
+    let a = c .before .before .before .before .before .args in
+    let i = c .before .before .before .loop .i in
+    let fits : (k : ℕ) → getD (a .s .now) k 0 < 256 = λ k. omega (arith, c .before .before .before .before .shared-slice-known .given k) in
+    (omega arith, byte-passed (a .s .now) fits i (a .q) 8 (λ j l x y. absurd (odd-none (getD (a .s .now) i 0) j l (c .if1 .taken) x)) (c .before .before .before .loop .inv .1) (λ l. absurd (omega arith)))
+
+add-b : tie.Need-add-b Inv-loop μ-loop
+add-b c = search needs
+
+shared-slice-read-b : tie.Need-shared-slice-read-b Inv-loop μ-loop
+shared-slice-read-b c = search needs
+
+add-i-2 : tie.Need-add-i-2 Inv-loop μ-loop
+add-i-2 c = search needs
+
+loop-less-2 : tie.Need-loop-less-2 Inv-loop μ-loop
+loop-less-2 c = search needs
+
+loop-again-2 : tie.Need-loop-again-2 Inv-loop μ-loop
+loop-again-2 c =
+    let a = c .before .before .before .before .before .before .before .args in
+    let i = c .before .before .before .before .before .loop .i in
+    let fits : (k : ℕ) → getD (a .s .now) k 0 < 256 = λ k. omega (arith, c .before .before .before .before .before .before .shared-slice-known .given k) in
+    (omega arith, byte-passed (a .s .now) fits i (a .q) 8 (λ j l x y. absurd (nil-none (getD (a .s .now) (i + 1) 0) j (eq-eqb (getD (a .s .now) (i + 1) 0) 0 (c .if2 .taken)) y)) (c .before .before .before .before .before .loop .inv .1) (λ l. absurd (omega arith)))
+
+sync-in-requires : tie.Need-sync-in-requires Inv-loop μ-loop
+sync-in-requires c κs = search needs
+
+mul-stands-from : tie.Need-mul-stands-from Inv-loop μ-loop
+mul-stands-from c = search needs
+
+add-stands-from : tie.Need-add-stands-from Inv-loop μ-loop
+add-stands-from c = search needs
+
+stands-from-requires : tie.Need-stands-from-requires Inv-loop μ-loop
+stands-from-requires c κs = search needs
+
+mul-result : tie.Need-mul-result Inv-loop μ-loop
+mul-result c = search needs
+
+add-result : tie.Need-add-result Inv-loop μ-loop
+add-result c = search needs
+
+returns : tie.Need-returns Inv-loop μ-loop
+returns c =
+    let a = c .before .before .before .before .before .before .before .before .before .before .args in
+    let i = c .before .before .before .before .before .before .before .before .loop .i in
+    let k = c .before .before .sync-in .result in
+    let fits : (k : ℕ) → getD (a .s .now) k 0 < 256 = λ k. omega (arith, c .before .before .before .before .before .before .before .before .before .shared-slice-known .given k) in
+    record {
+      from = c .before .stands-from .ensures .0 (c .if3 .taken);
+      within = omega (arith, c .before .before .sync-in .ensures .0);
+      none = byte-stops (a .s .now) fits i (a .q) k (c .before .before .sync-in .ensures .1) (c .before .before .before .before .before .before .before .before .loop .inv .1) (c .before .before .sync-in .ensures .0);
+    }
+
+add-i-3 : tie.Need-add-i-3 Inv-loop μ-loop
+add-i-3 c = search needs
+
+loop-less-3 : tie.Need-loop-less-3 Inv-loop μ-loop
+loop-less-3 c = search needs
+
+loop-again-3 : tie.Need-loop-again-3 Inv-loop μ-loop
+loop-again-3 c =
+    let a = c .before .before .before .before .before .before .before .before .before .before .args in
+    let i = c .before .before .before .before .before .before .before .before .loop .i in
+    let k = c .before .before .sync-in .result in
+    let fits : (k : ℕ) → getD (a .s .now) k 0 < 256 = λ k. omega (arith, c .before .before .before .before .before .before .before .before .before .shared-slice-known .given k) in
+    (omega arith, byte-passed (a .s .now) fits i (a .q) k (c .before .before .sync-in .ensures .1) (c .before .before .before .before .before .before .before .before .loop .inv .1) (c .before .stands-from .ensures .1 (c .if3 .left)))
+
+add-result-2 : tie.Need-add-result-2 Inv-loop μ-loop
+add-result-2 c = search needs
+
+returns-2 : tie.Need-returns-2 Inv-loop μ-loop
+returns-2 c = record { from = omega arith; within = omega arith; none = λ r a l h. c .before .loop .inv .1 r a (omega arith) h }
+
+pub sync-from-spec : {M : Type 1} → statement M
+sync-from-spec =
+    tie.close
+    (tie.spec
+    Inv-loop
+    μ-loop
+    loop-holds
+    mul-loop
+    shared-slice-read-a
+    add-i
+    loop-less
+    loop-again
+    add-b
+    shared-slice-read-b
+    add-i-2
+    loop-less-2
+    loop-again-2
+    sync-in-requires
+    mul-stands-from
+    add-stands-from
+    stands-from-requires
+    mul-result
+    add-result
+    returns
+    add-i-3
+    loop-less-3
+    loop-again-3
+    add-result-2
+    returns-2)

@@ -1,0 +1,3 @@
+pub mod TapLaws
+pub mod ParityLaws
+pub mod RightLaws

@@ -1,0 +1,27 @@
+-- A frame's 160 bits held in three numbers, and the fixed bits of a pattern as octets.
+-- Assumes nothing.
+use mathlib.Core.Path.{_≡_}
+use mathlib.Core.Bool.{true, not, Bool·beq}
+use mathlib.Core.List.{List, _++_}
+use Prim.Native.Nat.{ℕ}
+use lib.Dec.{ltb}
+use Rattle.bits.specs.Bit.{bitAt, number, count}
+use Rattle.channel.specs.Places.{elem}
+use Rattle.channel.specs.Coding.{Word, bitsAt, all, ones}
+
+-- k bits from place p on as a number, the first on top
+unfoldable pub held : Word → ℕ → ℕ → ℕ
+held g k p = number (bitsAt g (count k p))
+
+-- octets 1 to 8, 9 to 16 and 17 to 20 of a word
+pub record Holds (g : Word) (a b c : ℕ) : Type 0 where
+  pub first : a ≡ held g 64 0
+  pub second : b ≡ held g 64 64
+  pub third : c ≡ held g 32 128
+
+-- the fixed bits of a pattern as octets: which bits are fixed, and the fixed ones
+pub record FixedBy (zeros ones mask fixed : List ℕ) : Type 0 where
+  pub mask-is : all (λ i. Bool·beq (bitAt mask i) (elem i (zeros ++ ones))) (count 160 0) ≡ true
+  pub fixed-is : all (λ i. Bool·beq (bitAt fixed i) (elem i ones)) (count 160 0) ≡ true
+  pub inside : all (λ i. ltb i 160) (zeros ++ ones) ≡ true
+  pub apart : all (λ i. not (elem i ones)) zeros ≡ true
