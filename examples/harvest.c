@@ -24,17 +24,7 @@
 #include <stdlib.h>
 #include <string.h>
 
-enum { KINDS = 9 };
-
-/* What the summary needs to know of a kind beyond its record. */
-static const struct {
-	const char *name;
-	uint32_t usual_tail;
-	int has_crc;
-} kinds[KINDS] = {
-	{"0 gap", 0, 0},       {"1 HR speech", 2, 1},    {"2 data", 1, 0}, {"3 O&M", 1, 0},  {"4 configuration", 2, 0},
-	{"5 No_Speech", 2, 1}, {"6 lower speech", 1, 1}, {"7 6,70", 0, 1}, {"8 7,40", 0, 1},
-};
+enum { KINDS = BELLROPE_AMR_740 + 1 };
 
 /* The counts of one kind; of gaps, only the items. */
 typedef struct {
@@ -46,32 +36,30 @@ typedef struct {
 	uint64_t gap_bits;
 } summary;
 
-static void count(summary *s, const uint8_t *record) {
-	uint8_t kind = record[BELLROPE_AT_KIND];
-	counts *c = &s->of[kind];
+static void count(summary *s, const bellrope_record *record) {
+	const bellrope_about *about = bellrope_about_kind(record->kind);
+	counts *c = &s->of[record->kind];
 	c->items++;
-	if (kind == BELLROPE_GAP) {
-		s->gap_bits += bellrope_number_at(record + BELLROPE_AT_LENGTH);
+	if (record->kind == BELLROPE_GAP) {
+		s->gap_bits += record->length;
 		return;
 	}
-	uint8_t verdict = record[BELLROPE_AT_VERDICT];
-	if (verdict & BELLROPE_UNCHECKED) c->unchecked++;
-	else if (verdict & BELLROPE_WRONG) c->wrong++;
-	else if (kinds[kind].has_crc) c->right++;
-	uint32_t tail = bellrope_number_at(record + BELLROPE_AT_TAIL), usual = kinds[kind].usual_tail;
-	if (tail != usual) c->slipped++;
-	if (tail < usual) c->dropped += usual - tail;
-	if (tail > usual) c->added += tail - usual;
+	if (record->verdict & BELLROPE_UNCHECKED) c->unchecked++;
+	else if (record->verdict & BELLROPE_WRONG) c->wrong++;
+	else if (about->has_check) c->right++;
+	if (record->tail != about->usual_tail) c->slipped++;
+	if (record->tail < about->usual_tail) c->dropped += about->usual_tail - record->tail;
+	if (record->tail > about->usual_tail) c->added += record->tail - about->usual_tail;
 }
 
-static void print_counts(const char *name, int has_crc, const counts *c) {
-	printf("%-16s%8" PRIu64, name, c->items);
-	if (has_crc) printf("%8" PRIu64 "%8" PRIu64 "%11" PRIu64, c->right, c->wrong, c->unchecked);
+static void print_counts(int has_check, const counts *c) {
+	printf("%8" PRIu64, c->items);
+	if (has_check) printf("%8" PRIu64 "%8" PRIu64 "%11" PRIu64, c->right, c->wrong, c->unchecked);
 	else printf("%8s%8s%11s", "-", "-", "-");
 	printf("%9" PRIu64 "%9" PRIu64 "%7" PRIu64 "\n", c->slipped, c->dropped, c->added);
 }
 
-static void print_summary(const summary *s, uint64_t direction, uint64_t n) {
+static void print_summary(const summary *s, bellrope_capture capture) {
 	counts all = {0};
 	for (int k = 1; k < KINDS; k++) {
 		all.items += s->of[k].items;
@@ -82,46 +70,48 @@ static void print_summary(const summary *s, uint64_t direction, uint64_t n) {
 		all.dropped += s->of[k].dropped;
 		all.added += s->of[k].added;
 	}
-	printf("%s, %" PRIu64 " bits\n", direction == BELLROPE_UPLINK ? "uplink" : "downlink", n);
-	printf("frames: %" PRIu64 " in %" PRIu64 " bits\n", all.items, n - s->gap_bits);
+	printf("%s, %" PRIu64 " bits\n", capture.direction == BELLROPE_UPLINK ? "uplink" : "downlink", capture.n);
+	printf("frames: %" PRIu64 " in %" PRIu64 " bits\n", all.items, capture.n - s->gap_bits);
 	printf("gaps: %" PRIu64 " in %" PRIu64 " bits\n\n", s->of[BELLROPE_GAP].items, s->gap_bits);
 	printf("kind              frames   right   wrong  unchecked  slipped  dropped  added\n");
-	for (int k = 1; k < KINDS; k++) print_counts(kinds[k].name, kinds[k].has_crc, &s->of[k]);
-	print_counts("all", 1, &all);
+	for (int k = 1; k < KINDS; k++) {
+		printf("%d %-14s", k, bellrope_about_kind(k)->name);
+		print_counts(bellrope_about_kind(k)->has_check, &s->of[k]);
+	}
+	printf("%-16s", "all");
+	print_counts(1, &all);
 }
 
-static void print_record(const uint8_t *record) {
-	size_t bytes = bellrope_record_bytes(record[BELLROPE_AT_KIND]);
-	printf("%u,%" PRIu32 ",%" PRIu32 ",", record[BELLROPE_AT_KIND], bellrope_number_at(record + BELLROPE_AT_START),
-	       bellrope_number_at(record + BELLROPE_AT_TAIL));
-	if (record[BELLROPE_AT_KIND] == BELLROPE_GAP) printf(",,,");
-	else printf("%u,%u,%u,", record[BELLROPE_AT_CONTROL], record[BELLROPE_AT_EXTENDED], record[BELLROPE_AT_VERDICT]);
-	for (size_t at = BELLROPE_AT_D; at < bytes; at++) printf("%02x", record[at]);
+static void print_record(const bellrope_record *record) {
+	int gap = record->kind == BELLROPE_GAP;
+	printf("%" PRIu64 ",%" PRIu64 ",%" PRIu64 ",", record->kind, record->start, gap ? record->length : record->tail);
+	if (gap) printf(",,,");
+	else printf("%u,%u,%u,", record->control, record->extended, record->verdict);
+	for (size_t at = BELLROPE_AT_D; at < bellrope_record_bytes(record->kind); at++) printf("%02x", record->bytes[at]);
 	printf("\n");
 }
 
 /* Says why a page was refused, and what to do. */
 static void explain(uint64_t number, const char *file, size_t page_bytes) {
-	fprintf(stderr, "harvest: refused with number %" PRIu64 ": ", number);
+	fprintf(stderr, "harvest: refused with number %" PRIu64 " (%s): ", number, bellrope_number_name(number));
 	if (number == BELLROPE_TOO_LONG) fprintf(stderr, "%s has more than %d bytes. Give a shorter capture.\n", file, BELLROPE_BYTES_MOST);
 	else if (number == BELLROPE_NO_ROOM)
 		fprintf(stderr, "the next record does not fit a page of %zu bytes. Give at least %d.\n", page_bytes, BELLROPE_RECORD_MOST);
 	else fprintf(stderr, "bellrope.h says what that means. It should not happen here.\n");
 }
 
-/* The harvest: each page is asked with the cursor that the last one answered, until the position is n. Answers the number of the refusal, or 0. */
-static uint64_t harvest(const uint8_t *capture, size_t len, uint64_t direction, uint8_t *page, size_t page_bytes, summary *s, int csv) {
-	uint64_t n = 8 * (uint64_t)len, position = 0, context = BELLROPE_SEARCHING;
+/* The harvest: page after page, until the cursor stands at n. Answers the number of the refusal, or 0. */
+static uint64_t harvest(bellrope_capture capture, uint8_t *page, size_t page_bytes, summary *s, int csv) {
+	bellrope_cursor cursor = bellrope_begin();
+	bellrope_record record;
 	do {
-		bellrope_answer a = bellrope_page_or_null(capture, len, n, direction, position, context, UINT64_MAX, page, page_bytes);
-		if (a.number != BELLROPE_TAKEN) return a.number;
-		for (size_t at = 0; at < a.bytes; at += bellrope_record_bytes(page[at])) {
-			if (csv) print_record(page + at);
-			else count(s, page + at);
+		bellrope_answer answer = bellrope_next(capture, &cursor, UINT64_MAX, page, page_bytes);
+		if (answer.number != BELLROPE_TAKEN) return answer.number;
+		for (size_t at = 0; bellrope_walk(page, answer.bytes, &at, &record);) {
+			if (csv) print_record(&record);
+			else count(s, &record);
 		}
-		position = a.position;
-		context = a.context;
-	} while (position != n);
+	} while (cursor.position != capture.n);
 	return BELLROPE_TAKEN;
 }
 
@@ -148,15 +138,14 @@ static int usage(void) {
 }
 
 int main(int argc, char **argv) {
-	static uint8_t capture[BELLROPE_BYTES_MOST + 1];
+	static uint8_t bytes[BELLROPE_BYTES_MOST + 1];
 	static summary s;
 	size_t len, page_bytes = 4096;
 	int csv = argc > 1 && strcmp(argv[argc - 1], "--csv") == 0, words = argc - csv;
 	if (words < 3 || words > 4 || (words == 4 && !read_size(argv[3], &page_bytes))) return usage();
 	int down = strcmp(argv[1], "down") == 0;
 	if (!down && strcmp(argv[1], "up")) return usage();
-	uint64_t direction = down ? BELLROPE_DOWNLINK : BELLROPE_UPLINK;
-	if (!read_file(argv[2], capture, sizeof capture, &len)) {
+	if (!read_file(argv[2], bytes, sizeof bytes, &len)) {
 		fprintf(stderr, "harvest: %s cannot be read: %s\n", argv[2], strerror(errno));
 		return 2;
 	}
@@ -165,9 +154,10 @@ int main(int argc, char **argv) {
 		fprintf(stderr, "harvest: there is no memory for a page of %zu bytes. Give fewer.\n", page_bytes);
 		return 2;
 	}
-	uint64_t number = harvest(capture, len, direction, page, page_bytes, &s, csv);
+	bellrope_capture capture = bellrope_capture_of(bytes, len, 8 * (uint64_t)len, down ? BELLROPE_DOWNLINK : BELLROPE_UPLINK);
+	uint64_t number = harvest(capture, page, page_bytes, &s, csv);
 	free(page);
-	if (number == BELLROPE_TAKEN && !csv) print_summary(&s, direction, 8 * (uint64_t)len);
+	if (number == BELLROPE_TAKEN && !csv) print_summary(&s, capture);
 	if (fflush(stdout) || ferror(stdout)) {
 		fprintf(stderr, "harvest: the output cannot be written: %s\n", strerror(errno));
 		return 2;

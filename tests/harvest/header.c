@@ -1,30 +1,11 @@
-/* What bellrope.h says, held against the library: the layout of an answer, each number by its name, the places of a record, and the forms that take NULL.
- * It is C and C++ at once, so that both can be compiled. */
-#include "bellrope.h"
+/* The names of bellrope.h held against the library's two calls: the layout of an answer, each number by its name, and the places of a record. It is C and
+ * C++ at once, so that both can be compiled. */
+#include "hold.h"
 
 #include <assert.h>
-#include <stdio.h>
 #include <string.h>
 
 static_assert(sizeof(bellrope_answer) == 48 && offsetof(bellrope_answer, context) == 40, "an answer is six numbers of 64 bits");
-
-static int failures;
-
-static void hold(int so, int line, const char *what) {
-	if (so) return;
-	failures++;
-	printf("header: line %d: not so: %s\n", line, what);
-}
-#define HOLD(what) hold(what, __LINE__, #what)
-
-/* The answer has these numbers. It is looked at through pointers, with which a narrower field does not compile. */
-static int is(bellrope_answer a, uint64_t number, uint64_t index, uint64_t items, uint64_t bytes, uint64_t position, uint64_t context) {
-	const uint64_t *got[6] = {&a.number, &a.index, &a.items, &a.bytes, &a.position, &a.context};
-	const uint64_t due[6] = {number, index, items, bytes, position, context};
-	for (int i = 0; i < 6; i++)
-		if (*got[i] != due[i]) return 0;
-	return 1;
-}
 
 /* Eight ones, and then a frame of HR speech. */
 static const uint8_t capture[21] = {0xff, 0x00, 0x88, 0x44, 0x80, 0x80, 0x80, 0x80, 0x80, 0x80, 0xf0,
@@ -58,7 +39,6 @@ int main(void) {
 	HOLD(bellrope_number_at(frame + BELLROPE_AT_START) == 8 && bellrope_number_at(frame + BELLROPE_AT_TAIL) == 2);
 	HOLD(frame[BELLROPE_AT_CONTROL] == 0x1f && frame[BELLROPE_AT_EXTENDED] == 0x07 && frame[BELLROPE_AT_VERDICT] == 0);
 	HOLD(frame + len == records + 35 && memcmp(records + 35, still, 5) == 0);
-	HOLD(bellrope_record_bytes(BELLROPE_AMR_740) == BELLROPE_RECORD_MOST && bellrope_record_bytes(BELLROPE_AMR_740 + 1) == 0);
 
 	/* Refusals of writing, and the frame written back. */
 	memset(bits, 0x55, sizeof bits);
@@ -69,12 +49,5 @@ int main(void) {
 	HOLD(memcmp(bits, still, 21) == 0);
 	HOLD(is(bellrope_write(frame, len, DOWN, 8, 0, bits, 21), BELLROPE_TAKEN, 0, 1, 0, N, BELLROPE_AFTER_HR));
 	HOLD(bits[0] == 0x55 && memcmp(bits + 1, capture + 1, 20) == 0);
-
-	/* NULL where the length is 0. */
-	HOLD(is(bellrope_page_or_null(NULL, 0, 0, DOWN, 0, BELLROPE_AFTER_AMR, 1, NULL, 0), BELLROPE_TAKEN, 0, 0, 0, 0, BELLROPE_AFTER_AMR));
-	HOLD(is(bellrope_page_or_null(capture, 21, N, DOWN, 0, 0, 1, NULL, 0), BELLROPE_NO_ROOM, 0, 0, 0, 0, 0));
-	HOLD(is(bellrope_page_or_null(capture, 21, N, DOWN, 0, 0, 1, records, 40), BELLROPE_TAKEN, 0, 1, 9, 8, BELLROPE_SEARCHING));
-	HOLD(is(bellrope_write_or_null(NULL, 0, DOWN, 0, BELLROPE_AFTER_475, NULL, 0), BELLROPE_TAKEN, 0, 0, 0, 0, BELLROPE_AFTER_475));
-	HOLD(is(bellrope_write_or_null(frame, len, DOWN, 8, 0, bits, 21), BELLROPE_TAKEN, 0, 1, 0, N, BELLROPE_AFTER_HR));
 	return failures != 0;
 }

@@ -1,0 +1,204 @@
+/* The inline part of bellrope.h, held against the specification: its table of kinds is typed here anew, its examples P8 and P12 are harvested and written
+ * back. It is C99 and C++ at once. VERSION is the one that pkg-config gives. The linker hands the library's calls to the forms below (--wrap), which see
+ * that they get valid pointers even where the length is 0. */
+#include "hold.h"
+
+#include <string.h>
+
+#ifdef __cplusplus
+extern "C" {
+#endif
+bellrope_answer __real_bellrope_page(const uint8_t *, size_t, uint64_t, uint64_t, uint64_t, uint64_t, uint64_t, uint8_t *, size_t);
+bellrope_answer __real_bellrope_write(const uint8_t *, size_t, uint64_t, uint64_t, uint64_t, uint8_t *, size_t);
+
+bellrope_answer __wrap_bellrope_page(const uint8_t *capture, size_t capture_len, uint64_t n, uint64_t direction, uint64_t position, uint64_t context,
+                                     uint64_t most, uint8_t *buffer, size_t buffer_len) {
+	HOLD(capture != NULL && buffer != NULL);
+	return __real_bellrope_page(capture, capture_len, n, direction, position, context, most, buffer, buffer_len);
+}
+
+bellrope_answer __wrap_bellrope_write(const uint8_t *records, size_t records_len, uint64_t direction, uint64_t position, uint64_t context, uint8_t *buffer,
+                                      size_t buffer_len) {
+	HOLD(records != NULL && buffer != NULL);
+	return __real_bellrope_write(records, records_len, direction, position, context, buffer, buffer_len);
+}
+#ifdef __cplusplus
+}
+#endif
+
+/* By kind, from the specification's table and its records: bytes, D bits, body, least tail up and down, usual tail. */
+static const struct {
+	const char *name;
+	unsigned bytes, d_bits, body, least_up, least_down, usual_tail;
+} due[9] = {
+	{"gap", 9, 0, 0, 0, 0, 0},
+	{"HR speech", 26, 112, 158, 1, 0, 2},
+	{"data", 28, 126, 159, 1, 1, 1},
+	{"O&M", 27, 120, 159, 1, 1, 1},
+	{"configuration", 28, 125, 158, 2, 2, 2},
+	{"No_Speech", 28, 125, 158, 1, 0, 2},
+	{"lower speech", 28, 126, 159, 0, 0, 1},
+	{"6,70", 30, 137, 160, 0, 0, 0},
+	{"7,40", 31, 151, 160, 0, 0, 0},
+};
+
+/* P8: FF H downlink, a gap of 8 and HR speech. P12: kind 7 at 0, and Z as kind 8 at 160. */
+static const uint8_t p8[21] = {0xff, 0x00, 0x88, 0x44, 0x80, 0x80, 0x80, 0x80, 0x80, 0x80, 0xf0,
+                               0x80, 0x80, 0x80, 0x80, 0x80, 0x80, 0x80, 0x80, 0x80, 0xbf};
+static const uint8_t p12[40] = {0x00, 0x80, 0x90, 0x80, 0x80, 0x00, 0x80, 0x00, 0x80, 0x60, 0x80, 0x00, 0x80, 0x00,
+                                0x80, 0x00, 0x80, 0x00, 0x80, 0x00, 0x20, 0x00, 0x80};
+
+static void kinds(void) {
+	for (unsigned kind = 0; kind <= 8; kind++) {
+		const bellrope_about *about = bellrope_about_kind(kind);
+		HOLD(strcmp(about->name, due[kind].name) == 0);
+		HOLD(about->bytes == due[kind].bytes && bellrope_record_bytes(kind) == due[kind].bytes);
+		HOLD(about->d_bits == due[kind].d_bits && about->body == due[kind].body);
+		HOLD(about->least_tail[BELLROPE_UPLINK] == due[kind].least_up && about->least_tail[BELLROPE_DOWNLINK] == due[kind].least_down);
+		HOLD(about->usual_tail == due[kind].usual_tail);
+		/* A verdict of kinds 2, 3 and 4 is always 0. */
+		HOLD(about->has_check == (kind == 1 || kind >= 5));
+		HOLD(due[kind].bytes <= BELLROPE_RECORD_MOST);
+	}
+	const uint64_t unknown[] = {9, 10, 255, 256, 257, (uint64_t)1 << 32, UINT64_MAX};
+	for (size_t i = 0; i < sizeof unknown / sizeof *unknown; i++) {
+		HOLD(bellrope_record_bytes(unknown[i]) == 0 && bellrope_about_kind(unknown[i])->d_bits == 0);
+		HOLD(strcmp(bellrope_about_kind(unknown[i])->name, "unknown kind") == 0);
+	}
+}
+
+static void numbers(void) {
+	static const char *const names[] = {"taken", "bad request", "too long", "bad cursor", "no room", "unsound record", "record not due"};
+	for (unsigned number = 0; number <= 6; number++) HOLD(strcmp(bellrope_number_name(number), names[number]) == 0);
+	HOLD(strcmp(bellrope_number_name(7), "unknown number") == 0 && strcmp(bellrope_number_name(UINT64_MAX), "unknown number") == 0);
+	HOLD(strcmp(BELLROPE_VERSION, VERSION) == 0);
+}
+
+static int stands(bellrope_cursor cursor, uint64_t position, uint64_t context) { return cursor.position == position && cursor.context == context; }
+
+/* Pages of P8: the cursor moves where a page is taken, and only there. */
+static void pages(void) {
+	uint8_t page[40];
+	bellrope_cursor cursor = bellrope_begin();
+	bellrope_capture capture = bellrope_capture_of(p8, sizeof p8, 168, BELLROPE_DOWNLINK), odd = bellrope_capture_of(p8, sizeof p8, 168, 2);
+	bellrope_capture beyond = bellrope_capture_of(p8, sizeof p8, 169, BELLROPE_DOWNLINK);
+	memset(page, 0x55, sizeof page);
+	HOLD(stands(cursor, 0, BELLROPE_SEARCHING));
+	HOLD(is(bellrope_next(odd, &cursor, 1, page, 40), BELLROPE_BAD_REQUEST, 0, 0, 0, 0, 0) && stands(cursor, 0, 0));
+	HOLD(is(bellrope_next(beyond, &cursor, 1, page, 40), BELLROPE_TOO_LONG, 0, 0, 0, 0, 0) && stands(cursor, 0, 0));
+	HOLD(is(bellrope_next(capture, &cursor, 9, page, 9), BELLROPE_TAKEN, 0, 1, 9, 8, 0) && stands(cursor, 8, BELLROPE_SEARCHING));
+	HOLD(page[9] == 0x55);
+	HOLD(is(bellrope_next(capture, &cursor, 9, page, 25), BELLROPE_NO_ROOM, 0, 0, 0, 8, 0) && stands(cursor, 8, 0));
+	HOLD(is(bellrope_next(capture, &cursor, 0, page, 26), BELLROPE_BAD_REQUEST, 0, 0, 0, 8, 0) && stands(cursor, 8, 0));
+	HOLD(is(bellrope_next(capture, &cursor, 9, page, 26), BELLROPE_TAKEN, 0, 1, 26, 168, 1) && stands(cursor, 168, BELLROPE_AFTER_HR));
+	HOLD(is(bellrope_next(capture, &cursor, 9, page, 26), BELLROPE_TAKEN, 0, 0, 0, 168, 1) && stands(cursor, 168, BELLROPE_AFTER_HR));
+	cursor.context = 6;
+	HOLD(is(bellrope_next(capture, &cursor, 9, page, 26), BELLROPE_BAD_CURSOR, 0, 0, 0, 168, 6) && stands(cursor, 168, 6));
+	/* NULL where the length is 0. */
+	cursor = bellrope_begin();
+	cursor.context = BELLROPE_AFTER_AMR;
+	HOLD(is(bellrope_next(bellrope_capture_of(NULL, 0, 0, BELLROPE_UPLINK), &cursor, 1, NULL, 0), BELLROPE_TAKEN, 0, 0, 0, 0, 2));
+	HOLD(stands(cursor, 0, BELLROPE_AFTER_AMR));
+	HOLD(is(bellrope_next(capture, &cursor, 1, NULL, 0), BELLROPE_NO_ROOM, 0, 0, 0, 0, 2) && stands(cursor, 0, 2));
+}
+
+/* The records of P8 and P12, field by field. */
+static void fields(void) {
+	uint8_t page[70];
+	bellrope_record r;
+	bellrope_cursor cursor = bellrope_begin();
+	size_t at = 0;
+	memset(&r, 0, sizeof r);
+	HOLD(bellrope_next(bellrope_capture_of(p8, sizeof p8, 168, BELLROPE_DOWNLINK), &cursor, UINT64_MAX, page, sizeof page).bytes == 35);
+	HOLD(bellrope_walk(page, 35, &at, &r) && at == 9 && r.bytes == page);
+	HOLD(r.kind == BELLROPE_GAP && r.start == 0 && r.length == 8 && r.tail == 0 && r.control == 0 && r.extended == 0 && r.verdict == 0);
+	HOLD(bellrope_d(&r, 1) == -1);
+	HOLD(bellrope_walk(page, 35, &at, &r) && at == 35 && r.bytes == page + 9);
+	HOLD(r.kind == BELLROPE_SPEECH && r.start == 8 && r.length == 160 && r.tail == 2);
+	HOLD(r.control == 0x1f && r.extended == 0x07 && r.verdict == 0);
+	HOLD(!bellrope_walk(page, 35, &at, &r) && at == 35 && r.start == 8);
+	cursor = bellrope_begin();
+	at = 0;
+	HOLD(bellrope_next(bellrope_capture_of(p12, sizeof p12, 320, BELLROPE_UPLINK), &cursor, UINT64_MAX, page, sizeof page).bytes == 61);
+	HOLD(bellrope_walk(page, 61, &at, &r) && r.kind == BELLROPE_AMR_670 && r.start == 0 && r.tail == 0 && r.length == 160 && r.verdict == 0);
+	/* C1..C3 are 001; of octet 10, 60, D55..D62 are 01100000. */
+	HOLD(r.control == 0x20 && bellrope_d(&r, 55) == 0 && bellrope_d(&r, 56) == 1 && bellrope_d(&r, 57) == 1 && bellrope_d(&r, 58) == 0);
+	HOLD(bellrope_walk(page, 61, &at, &r) && r.kind == BELLROPE_AMR_740 && r.start == 160 && r.tail == 0 && r.verdict == 1 && at == 61);
+	HOLD(!bellrope_walk(page, 61, &at, &r) && !bellrope_walk(NULL, 0, &at, &r));
+}
+
+/* D bits stand from the top bit down, the first behind the verdict; a record of each kind with one of them set. */
+static void d_bits(void) {
+	for (unsigned kind = 0; kind <= 8; kind++)
+		for (unsigned set = 1; set <= due[kind].d_bits; set++) {
+			uint8_t bytes[31] = {0};
+			bellrope_record r;
+			size_t at = 0;
+			unsigned wrong = 0;
+			memset(&r, 0, sizeof r);
+			bytes[0] = (uint8_t)kind;
+			bytes[12 + (set - 1) / 8] = (uint8_t)(128 >> (set - 1) % 8);
+			HOLD(bellrope_walk(bytes, due[kind].bytes, &at, &r));
+			for (unsigned i = 1; i <= due[kind].d_bits; i++) wrong += bellrope_d(&r, i) != (i == set);
+			HOLD(wrong == 0);
+			HOLD(bellrope_d(&r, 0) == -1 && bellrope_d(&r, due[kind].d_bits + 1) == -1 && bellrope_d(&r, UINT64_MAX) == -1);
+		}
+}
+
+/* A walk takes whole records of known kinds only, and numbers of four bytes whole. */
+static void walks(void) {
+	uint8_t bytes[62];
+	bellrope_record r;
+	for (unsigned kind = 0; kind <= 10; kind++) {
+		unsigned whole = kind <= 8 ? due[kind].bytes : 0;
+		for (size_t length = 0; length <= 31; length++) {
+			size_t at = 31;
+			memset(bytes, 0xff, sizeof bytes);
+			bytes[31] = (uint8_t)kind;
+			int taken = bellrope_walk(bytes, 31 + length, &at, &r);
+			HOLD(taken == (whole != 0 && length >= whole) && at == 31 + (taken ? whole : 0));
+		}
+	}
+	size_t at = 0;
+	memset(bytes, 0xff, sizeof bytes);
+	bytes[0] = BELLROPE_LOWER;
+	HOLD(bellrope_walk(bytes, 28, &at, &r) && r.start == 0xffffffff && r.tail == 0xffffffff && r.length == 0xffffffff + (uint64_t)159);
+	at = SIZE_MAX;
+	HOLD(!bellrope_walk(bytes, 28, &at, &r) && at == SIZE_MAX);
+}
+
+/* The frame of P8 written back, and refusals, where neither bits nor cursor change. */
+static void writing(void) {
+	uint8_t page[40], bits[21], still[21];
+	bellrope_cursor cursor = bellrope_begin();
+	bellrope_buffer buffer = bellrope_buffer_of(bits, sizeof bits, BELLROPE_DOWNLINK);
+	memset(bits, 0x55, sizeof bits);
+	memset(still, 0x55, sizeof still);
+	HOLD(bellrope_next(bellrope_capture_of(p8, sizeof p8, 168, BELLROPE_DOWNLINK), &cursor, UINT64_MAX, page, sizeof page).items == 2);
+	cursor = bellrope_begin();
+	HOLD(is(bellrope_put(buffer, &cursor, page, 9), BELLROPE_UNSOUND, 0, 0, 0, 0, 0) && stands(cursor, 0, 0));
+	HOLD(is(bellrope_put(buffer, &cursor, page + 9, 26), BELLROPE_NOT_DUE, 0, 0, 0, 0, 0) && stands(cursor, 0, 0));
+	cursor.position = 8;
+	HOLD(is(bellrope_put(bellrope_buffer_of(bits, 21, 2), &cursor, page + 9, 26), BELLROPE_BAD_REQUEST, 0, 0, 0, 8, 0) && stands(cursor, 8, 0));
+	HOLD(is(bellrope_put(bellrope_buffer_of(bits, 20, 1), &cursor, page + 9, 26), BELLROPE_NO_ROOM, 0, 0, 0, 8, 0) && stands(cursor, 8, 0));
+	HOLD(memcmp(bits, still, 21) == 0);
+	HOLD(is(bellrope_put(buffer, &cursor, page + 9, 26), BELLROPE_TAKEN, 0, 1, 0, 168, 1) && stands(cursor, 168, BELLROPE_AFTER_HR));
+	HOLD(bits[0] == 0x55 && memcmp(bits + 1, p8 + 1, 20) == 0);
+	/* NULL where the length is 0. */
+	HOLD(is(bellrope_put(buffer, &cursor, NULL, 0), BELLROPE_TAKEN, 0, 0, 0, 168, 1) && stands(cursor, 168, 1));
+	HOLD(is(bellrope_put(bellrope_buffer_of(NULL, 0, 1), &cursor, NULL, 0), BELLROPE_BAD_CURSOR, 0, 0, 0, 168, 1) && stands(cursor, 168, 1));
+	cursor = bellrope_begin();
+	page[9 + BELLROPE_AT_START + 3] = 0;
+	HOLD(is(bellrope_put(bellrope_buffer_of(NULL, 0, 1), &cursor, page + 9, 26), BELLROPE_NO_ROOM, 0, 0, 0, 0, 0) && stands(cursor, 0, 0));
+}
+
+int main(void) {
+	kinds();
+	numbers();
+	pages();
+	fields();
+	d_bits();
+	walks();
+	writing();
+	return failures != 0;
+}
