@@ -1,7 +1,8 @@
-/* harvest up|down FILE [PAGE_BYTES] [--csv]: reads a capture to its end, page by page, and prints what is in it.
+/* harvest [up|down] FILE [PAGE_BYTES] [--csv]: reads a capture to its end, page by page, and prints what is in it.
  *
- * FILE holds the channel's bits and nothing else, the first bit sent being the top bit of the first byte; n is eight times its length. PAGE_BYTES is the
- * size of a page, 4096 if none is given. It does not change what is printed, but a page must fit its first record: 31 bytes fit any.
+ * FILE is a capture file: one byte of direction, 0 for uplink or 1 for downlink, and then the channel's bits, the first bit sent being the top bit of the
+ * first byte. Behind the word up or down, FILE holds the bits alone. n is eight times their bytes. PAGE_BYTES is the size of a page, 4096 if none is given.
+ * It does not change what is printed, but a page must fit its first record: 31 bytes fit any.
  *
  * The summary counts the items and their bits, and for each kind of frame:
  *   frames              all of them
@@ -11,8 +12,8 @@
  *   dropped, added      the bits that these tails are short of the usual, and those they have beyond it, each summed over the frames
  * The capture's last tail ends at n, even if more of it was sent.
  *
- * With --csv it prints instead one line for each record, kind,start,tail,control,extended,verdict,D: decimal, the D bits in hexadecimal as they stand in
- * the record. A gap is kind 0; it has its length for a tail, and the rest is empty.
+ * With --csv it prints instead a heading and one line for each record, in decimal but for the D bits: those are in hexadecimal, as they stand in the
+ * record. A gap is kind 0; it has its length for a tail, and the rest is empty.
  *
  * Exit status: 0 the capture was read to its end; 1 a page was refused, and standard error says why (lines of earlier pages stand); 2 bad usage, FILE
  * cannot be read, no memory for a page, or the output cannot be written. */
@@ -82,6 +83,8 @@ static void print_summary(const summary *s, bellrope_capture capture) {
 	print_counts(1, &all);
 }
 
+static void print_heading(void) { printf("kind,start,tail,control,extended,verdict,D\n"); }
+
 static void print_record(const bellrope_record *record) {
 	int gap = record->kind == BELLROPE_GAP;
 	printf("%" PRIu64 ",%" PRIu64 ",%" PRIu64 ",", record->kind, record->start, gap ? record->length : record->tail);
@@ -94,7 +97,9 @@ static void print_record(const bellrope_record *record) {
 /* Says why a page was refused, and what to do. */
 static void explain(uint64_t number, const char *file, size_t page_bytes) {
 	fprintf(stderr, "harvest: refused with number %" PRIu64 " (%s): ", number, bellrope_number_name(number));
-	if (number == BELLROPE_TOO_LONG) fprintf(stderr, "%s has more than %d bytes. Give a shorter capture.\n", file, BELLROPE_BYTES_MOST);
+	if (number == BELLROPE_BAD_REQUEST)
+		fprintf(stderr, "%s does not begin with a byte of direction, 0 (uplink) or 1 (downlink). If it holds bits alone, put up or down before it.\n", file);
+	else if (number == BELLROPE_TOO_LONG) fprintf(stderr, "%s has more than %d bytes of bits. Give a shorter capture.\n", file, BELLROPE_BYTES_MOST);
 	else if (number == BELLROPE_NO_ROOM)
 		fprintf(stderr, "the next record does not fit a page of %zu bytes. Give at least %d.\n", page_bytes, BELLROPE_RECORD_MOST);
 	else fprintf(stderr, "bellrope.h says what that means. It should not happen here.\n");
@@ -104,9 +109,12 @@ static void explain(uint64_t number, const char *file, size_t page_bytes) {
 static uint64_t harvest(bellrope_capture capture, uint8_t *page, size_t page_bytes, summary *s, int csv) {
 	bellrope_cursor cursor = bellrope_begin();
 	bellrope_record record;
+	int first = 1;
 	do {
 		bellrope_answer answer = bellrope_next(capture, &cursor, UINT64_MAX, page, page_bytes);
 		if (answer.number != BELLROPE_TAKEN) return answer.number;
+		if (csv && first) print_heading();
+		first = 0;
 		for (size_t at = 0; bellrope_walk(page, answer.bytes, &at, &record);) {
 			if (csv) print_record(&record);
 			else count(s, &record);
@@ -115,13 +123,19 @@ static uint64_t harvest(bellrope_capture capture, uint8_t *page, size_t page_byt
 	return BELLROPE_TAKEN;
 }
 
-/* Reads a file, up to one byte more than a capture may have: the library then refuses it. Answers 0 if it cannot be read. */
+/* Reads a file, up to `most` bytes. Answers 0 if it cannot be read. */
 static int read_file(const char *file, uint8_t *bytes, size_t most, size_t *len) {
 	FILE *f = fopen(file, "rb");
 	if (!f) return 0;
 	*len = fread(bytes, 1, most, f);
 	int bad = ferror(f);
 	return fclose(f) == 0 && !bad;
+}
+
+/* The capture in the bytes of a capture file. One without a byte of direction gets none that the library takes. */
+static bellrope_capture capture_in(const uint8_t *bytes, size_t len) {
+	if (len == 0) return bellrope_capture_of(bytes, 0, 0, UINT64_MAX);
+	return bellrope_capture_of(bytes + 1, len - 1, 8 * (uint64_t)(len - 1), bytes[0]);
 }
 
 /* Reads a size in decimal; answers 0 if the word is none. */
@@ -133,20 +147,20 @@ static int read_size(const char *word, size_t *size) {
 }
 
 static int usage(void) {
-	fprintf(stderr, "usage: harvest up|down FILE [PAGE_BYTES] [--csv]\n");
+	fprintf(stderr, "usage: harvest [up|down] FILE [PAGE_BYTES] [--csv]\n");
 	return 2;
 }
 
 int main(int argc, char **argv) {
-	static uint8_t bytes[BELLROPE_BYTES_MOST + 1];
+	static uint8_t bytes[BELLROPE_BYTES_MOST + 2]; /* direction, and one byte more than a capture may have: the library then refuses it */
 	static summary s;
 	size_t len, page_bytes = 4096;
-	int csv = argc > 1 && strcmp(argv[argc - 1], "--csv") == 0, words = argc - csv;
-	if (words < 3 || words > 4 || (words == 4 && !read_size(argv[3], &page_bytes))) return usage();
-	int down = strcmp(argv[1], "down") == 0;
-	if (!down && strcmp(argv[1], "up")) return usage();
-	if (!read_file(argv[2], bytes, sizeof bytes, &len)) {
-		fprintf(stderr, "harvest: %s cannot be read: %s\n", argv[2], strerror(errno));
+	int csv = argc > 1 && strcmp(argv[argc - 1], "--csv") == 0;
+	int up = argc > 1 && strcmp(argv[1], "up") == 0, down = argc > 1 && strcmp(argv[1], "down") == 0;
+	char **words = argv + 1 + (up || down), **end = argv + argc - csv;
+	if (end - words < 1 || end - words > 2 || (end - words == 2 && !read_size(words[1], &page_bytes))) return usage();
+	if (!read_file(words[0], bytes, sizeof bytes, &len)) {
+		fprintf(stderr, "harvest: %s cannot be read: %s\n", words[0], strerror(errno));
 		return 2;
 	}
 	uint8_t *page = malloc(page_bytes);
@@ -154,7 +168,8 @@ int main(int argc, char **argv) {
 		fprintf(stderr, "harvest: there is no memory for a page of %zu bytes. Give fewer.\n", page_bytes);
 		return 2;
 	}
-	bellrope_capture capture = bellrope_capture_of(bytes, len, 8 * (uint64_t)len, down ? BELLROPE_DOWNLINK : BELLROPE_UPLINK);
+	bellrope_capture capture = capture_in(bytes, len);
+	if (up || down) capture = bellrope_capture_of(bytes, len, 8 * (uint64_t)len, down ? BELLROPE_DOWNLINK : BELLROPE_UPLINK);
 	uint64_t number = harvest(capture, page, page_bytes, &s, csv);
 	free(page);
 	if (number == BELLROPE_TAKEN && !csv) print_summary(&s, capture);
@@ -162,6 +177,6 @@ int main(int argc, char **argv) {
 		fprintf(stderr, "harvest: the output cannot be written: %s\n", strerror(errno));
 		return 2;
 	}
-	if (number != BELLROPE_TAKEN) explain(number, argv[2], page_bytes);
+	if (number != BELLROPE_TAKEN) explain(number, words[0], page_bytes);
 	return number == BELLROPE_TAKEN ? 0 : 1;
 }

@@ -13,6 +13,7 @@ pub mod frame;
 pub mod inverse;
 pub mod judge;
 pub mod kinds;
+pub mod listing;
 pub mod make;
 pub mod page;
 pub mod reading;

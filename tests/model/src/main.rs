@@ -2,6 +2,9 @@
 //! the library with the model on N calls or a few more; without own checks, the model is not held
 //! against itself, so that only a difference stops a run. Exit status: 0 no difference, 1 a
 //! difference or something never hit, 2 bad usage, 3 the model breaks its own rules.
+//!
+//! `model list|csv|summary FILE`: what the listing program and the C example have to print of a
+//! capture file. Exit status: 0, or 1 where a file has no such output, or 2.
 
 mod client;
 mod compare;
@@ -13,6 +16,7 @@ mod coverage_write;
 
 use client::Client;
 use compare::{Comparison, Stop};
+use model::listing;
 use std::process::ExitCode;
 use std::time::Instant;
 
@@ -49,10 +53,42 @@ fn options() -> Option<Options> {
     (!options.client.is_empty()).then_some(options)
 }
 
+/// What has to be printed of a capture file.
+fn print(what: &str, file: &str) -> ExitCode {
+    let bytes = match std::fs::read(file) {
+        Ok(bytes) => bytes,
+        Err(error) => {
+            eprintln!("model: {file}: {error}");
+            return ExitCode::from(2);
+        }
+    };
+    let text = match what {
+        "list" => Ok(listing::list(&bytes)),
+        "csv" => listing::csv(&bytes),
+        _ => listing::summary(&bytes),
+    };
+    match text {
+        Ok(text) => {
+            print!("{text}");
+            ExitCode::SUCCESS
+        }
+        Err(number) => {
+            eprintln!("model: {file}: refused with number {number}");
+            ExitCode::from(1)
+        }
+    }
+}
+
 fn main() -> ExitCode {
+    let words: Vec<String> = std::env::args().skip(1).collect();
+    let words: Vec<&str> = words.iter().map(String::as_str).collect();
+    if let [what @ ("list" | "csv" | "summary"), file] = words[..] {
+        return print(what, file);
+    }
     let Some(options) = options() else {
         eprintln!(
-            "model compare --calls N --seed S [--only CASE] [--no-own-checks] --client COMMAND.."
+            "model compare --calls N --seed S [--only CASE] [--no-own-checks] --client COMMAND..\n\
+             model list|csv|summary FILE"
         );
         return ExitCode::from(2);
     };
