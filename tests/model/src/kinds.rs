@@ -1,6 +1,6 @@
 //! The table of kinds, the places of their named bits, and what each CRC covers.
 
-use crate::drawings;
+use crate::layouts;
 use std::sync::OnceLock;
 
 /// Body, least tail up and down, usual tail of kinds 1 to 8.
@@ -66,7 +66,7 @@ pub fn kind(number: usize) -> &'static Kind {
 
 fn make(number: usize) -> Kind {
     let (body, least_tail, usual_tail) = TABLE[number - 1];
-    let cells = &drawings::all()[number - 1][..body];
+    let cells = &layouts::all()[number - 1][..body];
     let find = |name: &str| cells.iter().position(|cell| cell == name);
     let count = |letters: &str| -> Vec<usize> {
         (1..)
