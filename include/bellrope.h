@@ -111,7 +111,7 @@ typedef struct {
 	uint64_t items;    /* paged or written; 0 on a refusal */
 	uint64_t bytes;    /* of records in the page; 0 on a refusal, and always in writing */
 	uint64_t position; /* the cursor behind the last item, or as given on a refusal */
-	uint64_t context;
+	uint64_t context;  /* of that cursor (enum bellrope_context) */
 } bellrope_answer;
 
 /* Paging: puts the records of the next items at the front of the buffer, as many as `most` allows
@@ -146,23 +146,23 @@ bellrope_answer bellrope_write(const uint8_t *records, size_t records_len, uint6
 
 /* What is read. Make it by bellrope_capture_of: fields added later then are 0. */
 typedef struct {
-	const uint8_t *bytes;
-	size_t length;      /* bytes */
-	uint64_t n;         /* how many bits of them are read, at most 8 * length */
-	uint64_t direction; /* which way they were sent (enum bellrope_direction) */
+	const uint8_t *bytes; /* what was recorded */
+	size_t length;        /* of them */
+	uint64_t n;           /* how many bits of them are read, at most 8 * length */
+	uint64_t direction;   /* which way they were sent (enum bellrope_direction) */
 } bellrope_capture;
 
 /* What is written to. Make it by bellrope_buffer_of. */
 typedef struct {
-	uint8_t *bytes;
-	size_t length;
+	uint8_t *bytes;     /* where the bits go */
+	size_t length;      /* of them */
 	uint64_t direction; /* which way the frames are sent */
 } bellrope_buffer;
 
 /* Where to go on. bellrope_begin is the first of a capture; each later one is what a call left. */
 typedef struct {
-	uint64_t position;
-	uint64_t context; /* enum bellrope_context */
+	uint64_t position; /* of the next bit */
+	uint64_t context;  /* what was read last (enum bellrope_context) */
 } bellrope_cursor;
 
 static inline bellrope_capture bellrope_capture_of(const uint8_t *bytes, size_t length, uint64_t n,
@@ -223,7 +223,7 @@ static inline bellrope_answer bellrope_put(bellrope_buffer buffer, bellrope_curs
 /* A kind. The body is a frame's first bits. The tail is every one behind it, up to the next zero
  * or n: T bits and timing fill together, so tail less usual tail is a timing slip. */
 typedef struct {
-	const char *name;
+	const char *name;      /* as text */
 	uint8_t bytes;         /* of a record; 0 for a kind that there is not */
 	uint8_t d_bits;        /* D1, D2, .. of a frame; here and below 0 for a gap */
 	uint8_t body;          /* bits */
@@ -232,6 +232,7 @@ typedef struct {
 	uint8_t has_check;     /* 1 where a verdict says right, wrong or unchecked, else 0 */
 } bellrope_about;
 
+/* What is said of a kind; of one that there is not, "unknown kind" and zeros. */
 static inline const bellrope_about *bellrope_about_kind(uint64_t kind) {
 	static const bellrope_about about[] = {
 		/*               bytes  D bits body least tail usual check */
@@ -276,9 +277,9 @@ typedef struct {
 	uint64_t start;       /* position of its first bit */
 	uint64_t length;      /* of a gap, or body and tail: the next item starts so far on */
 	uint64_t tail;        /* ones behind the body */
-	uint8_t control;
-	uint8_t extended;
-	uint8_t verdict; /* enum bellrope_verdict */
+	uint8_t control;      /* C bits, see enum bellrope_offset */
+	uint8_t extended;     /* XC bits and CRC, see there */
+	uint8_t verdict;      /* enum bellrope_verdict */
 } bellrope_record;
 
 /* Walks over records: takes the fields of the one at `*at`, moves `*at` behind it and answers 1. At
