@@ -3,7 +3,7 @@ ghost use mathlib.Core.Path.{_≡_};
 ghost use Prim.Native.Nat.{_+_, _*_, _-_, _/_, _%_, _^_, _<_, _≤_};
 ghost use lib.ListN.{length, getD};
 ghost use Rattle.bits.specs.Bit.{bitAt, octetOf, twenty, bitsFrom};
-ghost use Rattle.bits.specs.Sync.{SyncFrom};
+ghost use Rattle.bits.specs.Sync.{SyncedIn, SyncFrom};
 ghost use Prim.Native.Nat.{ℕ};
 ghost use mathlib.Core.Bool.{true, false};
 
@@ -76,9 +76,9 @@ pub fn octets(s: &[u8], n: usize, p: usize) -> [u8; 20]
     a
 }
 
-// Where in two bytes eight zeros and a one may begin: at one place of the first byte at most, told by the zeros that the second begins with; 8 for none.
+// Where in two bytes eight zeros and a one begin: at one place of the first byte at most, told by the zeros that the second begins with; 8 for none.
 fn sync_in(a: u8, b: u8) -> usize
-    ensures { λ r. ⌜ (r ≤ 8) × ((k : ℕ) → k < 8 → a % 2 ^ (8 - k) ≡ 0 → b / 2 ^ (7 - k) ≡ 1 → r ≡ k) ⌝ }
+    ensures { λ r. ⌜ (r ≤ 8) × ((k : ℕ) → k < 8 → SyncedIn a b k → r ≡ k) × (r < 8 → SyncedIn a b r) ⌝ }
 {
     if a % 2 == 1 {
         return 8;
@@ -92,12 +92,13 @@ fn sync_in(a: u8, b: u8) -> usize
 
 // Whether they begin in the first byte, at p, and not before q.
 fn stands_from(k: usize, p: usize, q: usize) -> bool
-    ensures { λ r. ⌜ (r ≡ true → q ≤ p) × (r ≡ false → k < 8 → p < q) ⌝ }
+    ensures { λ r. ⌜ (r ≡ true → (k < 8) × (q ≤ p)) × (r ≡ false → k < 8 → p < q) ⌝ }
 {
     if k < 8 { q <= p } else { false }
 }
 
-// A place from q on before which eight zeros and a one stand nowhere. A byte is looked at once for its eight places.
+// The first place from q on where eight zeros and a one stand, or the end of the byte that has bit `last` where they stand at none before it. A byte is
+// looked at once for its eight places.
 pub fn sync_from(s: &[u8], q: usize, last: usize) -> usize
     requires { ⌜ (q ≤ last) × (last + 9 ≤ 8 * length (now s)) × (length (now s) ≤ 65536) ⌝ }
     ensures { λ r. ⌜ SyncFrom (bitAt (now (s .entry))) q last r ⌝ }
@@ -120,5 +121,5 @@ pub fn sync_from(s: &[u8], q: usize, last: usize) -> usize
         }
         i += 1;
     }
-    last + 1
+    8 * i
 }

@@ -1,12 +1,13 @@
--- `bits::sync_from` meets its contract: no place of the bytes passed has eight zeros and a one.
+-- `bits::sync_from` meets its contract: no place of the bytes passed has eight zeros and a one, the one that is answered has.
 -- Assumes nothing.
 use mathlib.Core.Path.{_≡_, sym, _∙_}
+use mathlib.Core.Logic.{inl, inr}
 use Prim.Native.Nat.{ℕ, _+_, _*_, _-_, _<_, _≤_}
 use native.Mathlib.Omega.{arith}
 use lib.ListN.{getD}
 use borrow.Author.Needs.{needs}
 use borrow.Author.Tests.{eq-eqb}
-use Rattle.bits.proofs.SyncLaws.{odd-none, nil-none, Before, byte-passed, byte-stops}
+use Rattle.bits.proofs.SyncLaws.{bytes-synced, odd-none, nil-none, Before, byte-passed, byte-stops}
 use Rattle.bits.proofs.sync_from.Statement.{statement}
 use Rattle.bits.proofs.sync_from.Tie as tie
 use Rattle.bits.proofs.sync_from.Reads as reads
@@ -40,7 +41,7 @@ loop-again c =
     let a = c .before .before .before .before .before .args in
     let i = c .before .before .before .loop .i in
     let fits : (k : ℕ) → getD (a .s .now) k 0 < 256 = λ k. omega (arith, c .before .before .before .before .shared-slice-known .given k) in
-    (omega arith, byte-passed (a .s .now) fits i (a .q) 8 (λ j l x y. absurd (odd-none (getD (a .s .now) i 0) j l (c .if1 .taken) x)) (c .before .before .before .loop .inv .1) (λ l. absurd (omega arith)))
+    (omega arith, byte-passed (a .s .now) fits i (a .q) 8 (λ j l h. absurd (odd-none (getD (a .s .now) i 0) j l (c .if1 .taken) (h .0))) (c .before .before .before .loop .inv .1) (λ l. absurd (omega arith)))
 
 add-b : tie.Need-add-b Inv-loop μ-loop
 add-b c = search needs
@@ -59,7 +60,7 @@ loop-again-2 c =
     let a = c .before .before .before .before .before .before .before .args in
     let i = c .before .before .before .before .before .loop .i in
     let fits : (k : ℕ) → getD (a .s .now) k 0 < 256 = λ k. omega (arith, c .before .before .before .before .before .before .shared-slice-known .given k) in
-    (omega arith, byte-passed (a .s .now) fits i (a .q) 8 (λ j l x y. absurd (nil-none (getD (a .s .now) (i + 1) 0) j (eq-eqb (getD (a .s .now) (i + 1) 0) 0 (c .if2 .taken)) y)) (c .before .before .before .before .before .loop .inv .1) (λ l. absurd (omega arith)))
+    (omega arith, byte-passed (a .s .now) fits i (a .q) 8 (λ j l h. absurd (nil-none (getD (a .s .now) (i + 1) 0) j (eq-eqb (getD (a .s .now) (i + 1) 0) 0 (c .if2 .taken)) (h .1))) (c .before .before .before .before .before .loop .inv .1) (λ l. absurd (omega arith)))
 
 sync-in-requires : tie.Need-sync-in-requires Inv-loop μ-loop
 sync-in-requires c κs = search needs
@@ -85,10 +86,12 @@ returns c =
     let i = c .before .before .before .before .before .before .before .before .loop .i in
     let k = c .before .before .sync-in .result in
     let fits : (k : ℕ) → getD (a .s .now) k 0 < 256 = λ k. omega (arith, c .before .before .before .before .before .before .before .before .before .shared-slice-known .given k) in
+    let stands = c .before .stands-from .ensures .0 (c .if3 .taken) in
     record {
-      from = c .before .stands-from .ensures .0 (c .if3 .taken);
-      within = omega (arith, c .before .before .sync-in .ensures .0);
+      from = stands .1;
+      within = omega (arith, c .before .before .before .before .before .before .before .before .loop .inv .0);
       none = byte-stops (a .s .now) fits i (a .q) k (c .before .before .sync-in .ensures .1) (c .before .before .before .before .before .before .before .before .loop .inv .1) (c .before .before .sync-in .ensures .0);
+      stops = inr (bytes-synced (a .s .now) i k (stands .0) (c .before .before .sync-in .ensures .2 (stands .0)));
     }
 
 add-i-3 : tie.Need-add-i-3 Inv-loop μ-loop
@@ -105,11 +108,11 @@ loop-again-3 c =
     let fits : (k : ℕ) → getD (a .s .now) k 0 < 256 = λ k. omega (arith, c .before .before .before .before .before .before .before .before .before .shared-slice-known .given k) in
     (omega arith, byte-passed (a .s .now) fits i (a .q) k (c .before .before .sync-in .ensures .1) (c .before .before .before .before .before .before .before .before .loop .inv .1) (c .before .stands-from .ensures .1 (c .if3 .left)))
 
-add-result-2 : tie.Need-add-result-2 Inv-loop μ-loop
-add-result-2 c = search needs
+mul-result-2 : tie.Need-mul-result-2 Inv-loop μ-loop
+mul-result-2 c = search needs
 
 returns-2 : tie.Need-returns-2 Inv-loop μ-loop
-returns-2 c = record { from = omega arith; within = omega arith; none = λ r a l h. c .before .loop .inv .1 r a (omega arith) h }
+returns-2 c = record { from = omega arith; within = omega arith; none = c .before .loop .inv .1; stops = inl (omega arith) }
 
 pub sync-from-spec : {M : Type 1} → statement M
 sync-from-spec =
@@ -138,5 +141,5 @@ sync-from-spec =
     add-i-3
     loop-less-3
     loop-again-3
-    add-result-2
+    mul-result-2
     returns-2)
