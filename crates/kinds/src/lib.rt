@@ -71,15 +71,13 @@ pub fn least_tail(d: Direction, k: Kind) -> usize
 fn starts(k: Kind, v: u8) -> bool
     ensures { λ r. ⌜ r ≡ startsBy k v ⌝ }
 {
-    match k {
-        Kind::Speech => v % 16 == 0,
-        Kind::Data => v % 16 == 0,
-        Kind::Om => v % 16 == 0,
-        Kind::Configuration => v % 16 == 0,
-        Kind::NoSpeech => v % 16 == 0,
-        Kind::Lower => if v % 16 == 0 { v < 128 } else { false },
-        Kind::Amr670 => v % 16 == 0,
-        Kind::Amr740 => false,
+    if v % 16 != 0 {
+        return false;
+    }
+    match number(k) {
+        6 => v < 128,
+        8 => false,
+        _ => true,
     }
 }
 
@@ -87,16 +85,10 @@ fn starts(k: Kind, v: u8) -> bool
 fn follows_in(k: Kind, x: u8) -> bool
     ensures { λ r. ⌜ r ≡ follows x k ⌝ }
 {
-    match k {
-        Kind::Speech => x != 0,
-        Kind::Data => x != 0,
-        Kind::Om => x != 0,
-        Kind::Configuration => x != 0,
-        Kind::NoSpeech => x != 0,
-        Kind::Lower => x != 0,
-        Kind::Amr670 => x != 0,
-        Kind::Amr740 => 2 <= x,
+    if number(k) == 8 {
+        return 2 <= x;
     }
+    x != 0
 }
 
 // Rule 2: whether a kind with its verdict may be an item in a context: in context 0 one that starts a run, in any other one that follows.

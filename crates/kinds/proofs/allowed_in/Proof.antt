@@ -1,11 +1,5 @@
 -- `kinds::allowed_in` meets its contract.
 -- Assumes nothing.
-use mathlib.Core.Bool.{Bool, cond}
-use Rattle.channel.specs.Verdict.{startsBy, follows}
-use mathlib.Core.Path.{_≡_, refl, sym, _∙_, ap}
-use Prim.Native.Nat.{_+_, _*_, _%_}
-use native.Mathlib.Omega.{arith}
-use Rattle.bits.specs.Bit.{bitAt, toN}
 use borrow.Author.Tests.{eq-eqb, ne-eqb}
 use borrow.Author.Needs.{needs}
 use Rattle.kinds.proofs.allowed_in.Statement.{statement}
@@ -21,9 +15,7 @@ returns : tie.Need-returns
 returns c = rw (eq-eqb (c .before .before .args .x) 0 (c .before .if1 .taken)) (c .starts .ensures)
 
 returns-2 : tie.Need-returns-2
-returns-2 c =
-    let a = c .before .before .args in
-    c .follows-in .ensures ∙ sym (ap (λ (b : Bool). cond b (startsBy (a .k) (a .v)) (follows (a .x) (a .k))) (ne-eqb (a .x) 0 (c .before .if1 .left)))
+returns-2 c = let other = ne-eqb (c .before .before .args .x) 0 (c .before .if1 .left) in rw other (rw other at (c .follows-in .ensures))
 
 pub allowed-in-spec : {M : Type 1} → statement M
 allowed-in-spec = tie.close (tie.spec starts-requires follows-in-requires returns returns-2)

@@ -1,81 +1,20 @@
--- `kinds::follows_in` meets its contract.
+-- `kinds::follows_in` meets its contract: by the number of the kind.
 -- Assumes nothing.
-use mathlib.Core.Path.{_≡_, refl, sym, _∙_, ap}
-use Prim.Native.Nat.{_+_, _*_, _%_}
-use native.Mathlib.Omega.{arith}
-use Rattle.bits.specs.Bit.{bitAt, toN}
-use mathlib.Core.Bool.{not}
-use lib.Dec.{eqb}
-use Rattle.kinds.proofs.KindLaws.{and-true, two-not-0}
+use mathlib.Core.Bool.{and-true}
 use borrow.Author.Needs.{needs}
+use borrow.Author.Tests.{ne-eqb}
+use Rattle.kinds.proofs.KindLaws.{two-not-0}
 use Rattle.kinds.proofs.follows_in.Statement.{statement}
 use Rattle.kinds.proofs.follows_in.Tie as tie
 
-enum-told : tie.Need-enum-told
-enum-told c = search needs
-
-enum-told-2 : tie.Need-enum-told-2
-enum-told-2 c = search needs
-
-enum-told-3 : tie.Need-enum-told-3
-enum-told-3 c = search needs
-
-enum-told-4 : tie.Need-enum-told-4
-enum-told-4 c = search needs
-
-enum-told-5 : tie.Need-enum-told-5
-enum-told-5 c = search needs
-
-enum-told-6 : tie.Need-enum-told-6
-enum-told-6 c = search needs
-
-enum-told-7 : tie.Need-enum-told-7
-enum-told-7 c = search needs
-
-enum-told-8 : tie.Need-enum-told-8
-enum-told-8 c = search needs
+number-requires : tie.Need-number-requires
+number-requires c κs = search needs
 
 returns : tie.Need-returns
-returns c = rw (c .enum-told .given .1) (and-true (not (eqb (c .before .before .args .x) 0)))
+returns c = rw (← c .before .number .ensures, c .if1 .taken) (two-not-0 (c .before .before .args .x))
 
 returns-2 : tie.Need-returns-2
-returns-2 c = rw (c .enum-told2 .given .1) (and-true (not (eqb (c .before .before .args .x) 0)))
-
-returns-3 : tie.Need-returns-3
-returns-3 c = rw (c .enum-told3 .given .1) (and-true (not (eqb (c .before .before .args .x) 0)))
-
-returns-4 : tie.Need-returns-4
-returns-4 c = rw (c .enum-told4 .given .1) (and-true (not (eqb (c .before .before .args .x) 0)))
-
-returns-5 : tie.Need-returns-5
-returns-5 c = rw (c .enum-told5 .given .1) (and-true (not (eqb (c .before .before .args .x) 0)))
-
-returns-6 : tie.Need-returns-6
-returns-6 c = rw (c .enum-told6 .given .1) (and-true (not (eqb (c .before .before .args .x) 0)))
-
-returns-7 : tie.Need-returns-7
-returns-7 c = rw (c .enum-told7 .given .1) (and-true (not (eqb (c .before .before .args .x) 0)))
-
-returns-8 : tie.Need-returns-8
-returns-8 c = rw (c .enum-told8 .given .1) (two-not-0 (c .before .before .args .x))
+returns-2 c = rw (← c .before .number .ensures, ne-eqb (c .before .number .result) 8 (c .if1 .left), and-true)
 
 pub follows-in-spec : {M : Type 1} → statement M
-follows-in-spec =
-    tie.close
-    (tie.spec
-    enum-told
-    enum-told-2
-    enum-told-3
-    enum-told-4
-    enum-told-5
-    enum-told-6
-    enum-told-7
-    enum-told-8
-    returns
-    returns-2
-    returns-3
-    returns-4
-    returns-5
-    returns-6
-    returns-7
-    returns-8)
+follows-in-spec = tie.close (tie.spec number-requires returns returns-2)
