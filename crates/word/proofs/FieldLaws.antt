@@ -2,7 +2,7 @@
 -- Assumes nothing.
 use mathlib.Core.Path.{_≡_, sym, _∙_, ap}
 use mathlib.Core.Bool.{Bool, true, false}
-use mathlib.Core.List.{List, [], _∷_, _++_, map}
+use mathlib.Core.List.{List, [], _∷_, _++_, map, map-append}
 use Prim.Native.Nat.{ℕ, suc, _+_, _*_, _/_, _%_, _^_, _<_}
 use native.Mathlib.Nat.{pow-suc, add-mul, mul-assoc, mul-comm, one-mul}
 use native.Mathlib.Omega.{arith}
@@ -13,7 +13,7 @@ use Rattle.bits.specs.Bit.{toN, numberFrom, number, count}
 use Rattle.bits.proofs.CountLaws.{length-count}
 use Rattle.channel.specs.Coding.{Word}
 use Rattle.word.specs.Words.{held}
-use Rattle.word.proofs.MaskLaws.{count-split, map-append, number-append}
+use Rattle.word.proofs.MaskLaws.{count-split, number-append}
 
 -- what stands above the digits of a list is pushed up by them
 pub number-from : (bs : List Bool) (a : ℕ) → numberFrom a bs ≡ a * 2 ^ length bs + number bs
@@ -27,7 +27,7 @@ number-from (b ∷ bs) a =
     let g : numberFrom (2 * 0 + toN b) bs ≡ toN b * 2 ^ length bs + number bs = ap (λ (n : ℕ). numberFrom n bs) z ∙ number-from bs (toN b) in
     number-from bs (2 * a + toN b) ∙ rw (e, g) (omega arith)
 
-pub number-lt : (bs : List Bool) → number bs < 2 ^ length bs
+number-lt : (bs : List Bool) → number bs < 2 ^ length bs
 number-lt [] = omega arith
 number-lt (b ∷ bs) =
     let z : 2 * 0 + toN b ≡ toN b = omega arith in

@@ -2,8 +2,8 @@
 -- Assumes nothing.
 use mathlib.Core.Path.{_≡_, refl, sym, _∙_, ap, ap₂}
 use mathlib.Core.Logic.{by-cases}
-use mathlib.Core.Bool.{Bool, true, false, not, _&&_, cond, Bool·beq}
-use mathlib.Core.List.{List, [], _∷_, _++_, map}
+use mathlib.Core.Bool.{Bool, true, false, not, _&&_, cond, Bool·beq, and-true, and-false, and-assoc}
+use mathlib.Core.List.{List, [], _∷_, _++_, map, map-append}
 use Prim.Native.Nat.{ℕ, zero, suc, _+_, _*_, _-_, _/_, _%_, _^_, _<_, min, zero-le}
 use native.Mathlib.Omega.{arith}
 use native.Mathlib.Decide.{ℕ-discrete}
@@ -17,7 +17,7 @@ use lib.ListN.{getD}
 use Rattle.channel.specs.Places.{elem}
 use Rattle.channel.proofs.BoolLaws.{all-at, and-l, and-r, and-both}
 use Rattle.channel.proofs.DLaws.{elem-count}
-use Rattle.word.specs.Words.{held, Holds, FixedBy}
+use Rattle.word.specs.Words.{held, fourAt, Holds, FixedBy}
 
 -- a number and a bit behind it
 half : (a : ℕ) (x : Bool) → (2 * a + toN x) / 2 ≡ a
@@ -48,7 +48,7 @@ and-from (p ∷ ps) g m a b =
     and-from ps g m (2 * a + toN (g p)) (2 * b + toN (m p))
     ∙ ap (λ (n : ℕ). numberFrom n (map (λ i. g i && m i) ps)) (and-digit a b (g p) (m p))
 
-pub masked : (ps : List ℕ) (g m : ℕ → Bool) → bitAnd (number (map g ps)) (number (map m ps)) ≡ number (map (λ i. g i && m i) ps)
+masked : (ps : List ℕ) (g m : ℕ → Bool) → bitAnd (number (map g ps)) (number (map m ps)) ≡ number (map (λ i. g i && m i) ps)
 masked ps g m = and-from ps g m 0 0
 
 -- two numbers of as many bits are the same where all their bits are
@@ -61,34 +61,22 @@ same-digit a b x y = by-cases (ℕ-discrete a b) (λ (e : a ≡ b). rw (eq-eqb a
     equal false true = ne-eqb (2 * b + 0) (2 * b + 1) (λ f. omega arith)
     equal false false = eq-eqb (2 * b + 0) (2 * b + 0) refl
 
-and-regroup : (a b c : Bool) → (a && b) && c ≡ a && (b && c)
-and-regroup true b c = refl
-and-regroup false b c = refl
-
 same-from : (ps : List ℕ) (g h : ℕ → Bool) (a b : ℕ) → eqb (numberFrom a (map g ps)) (numberFrom b (map h ps)) ≡ eqb a b && all (λ i. Bool·beq (g i) (h i)) ps
-same-from [] g h a b = and-true (eqb a b)
-  where
-    and-true : (c : Bool) → c ≡ c && true
-    and-true true = refl
-    and-true false = refl
+same-from [] g h a b = sym (and-true (eqb a b))
 same-from (p ∷ ps) g h a b =
     same-from ps g h (2 * a + toN (g p)) (2 * b + toN (h p))
     ∙ ap (λ (c : Bool). c && all (λ i. Bool·beq (g i) (h i)) ps) (same-digit a b (g p) (h p))
-    ∙ and-regroup (eqb a b) (Bool·beq (g p) (h p)) (all (λ i. Bool·beq (g i) (h i)) ps)
+    ∙ and-assoc (eqb a b) (Bool·beq (g p) (h p)) (all (λ i. Bool·beq (g i) (h i)) ps)
 
-pub same-bits : (ps : List ℕ) (g h : ℕ → Bool) → eqb (number (map g ps)) (number (map h ps)) ≡ all (λ i. Bool·beq (g i) (h i)) ps
+same-bits : (ps : List ℕ) (g h : ℕ → Bool) → eqb (number (map g ps)) (number (map h ps)) ≡ all (λ i. Bool·beq (g i) (h i)) ps
 same-bits ps g h = same-from ps g h 0 0
 
 -- ---- the three numbers that hold a word
 
 -- lists joined
-pub map-append : (g : Word) (xs ys : List ℕ) → map g (xs ++ ys) ≡ map g xs ++ map g ys
-map-append g [] ys = refl
-map-append g (x ∷ xs) ys = ap (λ (l : List Bool). g x ∷ l) (map-append g xs ys)
-
 all-append : (t : ℕ → Bool) (xs ys : List ℕ) → all t (xs ++ ys) ≡ all t xs && all t ys
 all-append t [] ys = refl
-all-append t (x ∷ xs) ys = ap (λ (b : Bool). t x && b) (all-append t xs ys) ∙ sym (and-regroup (t x) (all t xs) (all t ys))
+all-append t (x ∷ xs) ys = ap (λ (b : Bool). t x && b) (all-append t xs ys) ∙ sym (and-assoc (t x) (all t xs) (all t ys))
 
 all-windows : (t : ℕ → Bool) → all t (count 64 0) && (all t (count 64 64) && all t (count 32 128)) ≡ all t (count 160 0)
 all-windows t = sym (all-append t (count 64 0) (count 64 64 ++ count 32 128) ∙ ap (λ (b : Bool). all t (count 64 0) && b) (all-append t (count 64 64) (count 32 128)))
@@ -122,19 +110,12 @@ elem-append i (x ∷ xs) ys = go (eqb i x) (elem-append i xs ys)
     go true e = refl
     go false e = e
 
-beq-same : (a b : Bool) → Bool·beq a b ≡ true → a ≡ b
+-- a test of two bits that holds
+pub beq-same : (a b : Bool) → Bool·beq a b ≡ true → a ≡ b
 beq-same true true h = refl
 beq-same true false h = sym h
 beq-same false true h = h
 beq-same false false h = refl
-
-and-one : (b : Bool) → b && true ≡ b
-and-one true = refl
-and-one false = refl
-
-and-nil : (b : Bool) → b && false ≡ false
-and-nil true = refl
-and-nil false = refl
 
 module _ (g : Word) (zeros ons mask fixed : List ℕ) (by : FixedBy zeros ons mask fixed) where
   test : ℕ → Bool
@@ -163,7 +144,7 @@ module _ (g : Word) (zeros ons mask fixed : List ℕ) (by : FixedBy zeros ons ma
   unfolding test
   there h i e =
       let t : test i ≡ true = all-at test (count 160 0) i (within i e) h in
-      sym (and-one (g i)) ∙ ap (λ (b : Bool). g i && b) (sym (mask-at i (within i e) ∙ e)) ∙ beq-same (g i && bitAt mask i) (bitAt fixed i) t ∙ fixed-at i (within i e)
+      sym (and-true (g i)) ∙ ap (λ (b : Bool). g i && b) (sym (mask-at i (within i e) ∙ e)) ∙ beq-same (g i && bitAt mask i) (bitAt fixed i) t ∙ fixed-at i (within i e)
 
   holds-both : all test (count 160 0) ≡ true → all (λ i. not (g i)) zeros && all g ons ≡ true
   holds-both h =
@@ -184,7 +165,7 @@ module _ (g : Word) (zeros ons mask fixed : List ℕ) (by : FixedBy zeros ons ma
           rw (fixed-at i m, q, nil)
       go i m false false p q =
           let out : elem i (zeros ++ ons) ≡ false = elem-append i zeros ons ∙ rw (p, q) in
-          rw (mask-at i m, fixed-at i m, out, q, and-nil (g i))
+          rw (mask-at i m, fixed-at i m, out, q, and-false (g i))
 
   -- the test of all the places is the test of the fixed ones
   fixed-test : all test (count 160 0) ≡ all (λ i. not (g i)) zeros && all g ons
@@ -251,15 +232,11 @@ module _ (s : List ℕ) (fits : (k : ℕ) → getD s k 0 < 256) where
       ∙ bytes-push m (suc k) (a * 256 + getD s k 0)
 
   -- what the code puts together
-  pub holds-octets : (a b c : ℕ) → a ≡ fromBytes 0 0 8 → b ≡ fromBytes 0 8 8 → c ≡ fromBytes 0 16 4 → Holds (bitAt s) a b c
+  holds-octets : (a b c : ℕ) → a ≡ fromBytes 0 0 8 → b ≡ fromBytes 0 8 8 → c ≡ fromBytes 0 16 4 → Holds (bitAt s) a b c
   unfolding held
   holds-octets a b c p q r = record { first = p ∙ sym (bytes-push 8 0 0); second = q ∙ sym (bytes-push 8 8 0); third = r ∙ sym (bytes-push 4 16 0) }
 
   -- by fours
-  pub holds-fours : (f1 f2 f3 f4 f5 e1 e2 : ℕ) → f1 ≡ ((getD s 0 0 * 256 + getD s 1 0) * 256 + getD s 2 0) * 256 + getD s 3 0
-      → f2 ≡ ((getD s 4 0 * 256 + getD s 5 0) * 256 + getD s 6 0) * 256 + getD s 7 0
-      → f3 ≡ ((getD s 8 0 * 256 + getD s 9 0) * 256 + getD s 10 0) * 256 + getD s 11 0
-      → f4 ≡ ((getD s 12 0 * 256 + getD s 13 0) * 256 + getD s 14 0) * 256 + getD s 15 0
-      → f5 ≡ ((getD s 16 0 * 256 + getD s 17 0) * 256 + getD s 18 0) * 256 + getD s 19 0
+  pub holds-fours : (f1 f2 f3 f4 f5 e1 e2 : ℕ) → f1 ≡ fourAt s 0 → f2 ≡ fourAt s 4 → f3 ≡ fourAt s 8 → f4 ≡ fourAt s 12 → f5 ≡ fourAt s 16
       → e1 ≡ f1 * 4294967296 + f2 → e2 ≡ f3 * 4294967296 + f4 → Holds (bitAt s) e1 e2 f5
   holds-fours f1 f2 f3 f4 f5 e1 e2 a b c d e g h = holds-octets e1 e2 f5 (omega arith) (omega arith) (omega arith)

@@ -19,7 +19,7 @@ use Rattle.channel.specs.Control.{fromTop}
 
 module _ (ps : List ℕ) (j : ℕ) where
   -- a field packed of the places
-  pub number-turn : (g : Word) (a : ℕ) → j < length ps → numberFrom a (bitsAt g (drop j ps)) ≡ numberFrom (2 * a + toN (g (getD ps j 0))) (bitsAt g (drop (j + 1) ps))
+  number-turn : (g : Word) (a : ℕ) → j < length ps → numberFrom a (bitsAt g (drop j ps)) ≡ numberFrom (2 * a + toN (g (getD ps j 0))) (bitsAt g (drop (j + 1) ps))
   number-turn g a h = rw (add-one, drop-cons ps j 0 h)
 
   pub number-end : (g : Word) (a : ℕ) → length ps ≤ j → numberFrom a (bitsAt g (drop j ps)) ≡ a
@@ -53,7 +53,7 @@ ones-from [] a = omega arith
 ones-from (b ∷ bs) a = omega (arith, ones-from bs (2 * a + toN b), bit-last a b)
 
 -- the language's count of ones, on a field packed of bits, is the number of ones among them
-pub ones-packed : (bs : List Bool) → Count.ones (number bs) ≡ ones bs
+ones-packed : (bs : List Bool) → Count.ones (number bs) ≡ ones bs
 unfolding Count.ones Count.onesIn
 ones-packed bs = ones-from bs 0 ∙ zero-add (ones bs)
 

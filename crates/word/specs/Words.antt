@@ -3,8 +3,9 @@
 use mathlib.Core.Path.{_≡_}
 use mathlib.Core.Bool.{true, not, Bool·beq}
 use mathlib.Core.List.{List, _++_}
-use Prim.Native.Nat.{ℕ}
+use Prim.Native.Nat.{ℕ, _+_, _*_}
 use lib.Dec.{ltb}
+use lib.ListN.{getD}
 use Rattle.bits.specs.Bit.{bitAt, number, count}
 use Rattle.channel.specs.Places.{elem}
 use Rattle.channel.specs.Coding.{Word, bitsAt, all, ones}
@@ -12,6 +13,10 @@ use Rattle.channel.specs.Coding.{Word, bitsAt, all, ones}
 -- k bits from place p on as a number, the first on top
 unfoldable pub held : Word → ℕ → ℕ → ℕ
 held g k p = number (bitsAt g (count k p))
+
+-- four bytes from byte i on as a number, the first on top
+abbrev pub fourAt : List ℕ → ℕ → ℕ
+fourAt s i = ((getD s i 0 * 256 + getD s (i + 1) 0) * 256 + getD s (i + 2) 0) * 256 + getD s (i + 3) 0
 
 -- octets 1 to 8, 9 to 16 and 17 to 20 of a word
 pub record Holds (g : Word) (a b c : ℕ) : Type 0 where

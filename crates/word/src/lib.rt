@@ -10,7 +10,7 @@ ghost use Rattle.bits.specs.Bit.{bitAt, toN, number, count};
 ghost use Rattle.channel.specs.Coding.{Word, bitsAt, all};
 ghost use Rattle.channel.specs.Control.{fromTop};
 ghost use Rattle.word.specs.Below.{Below};
-ghost use Rattle.word.specs.Words.{held, Holds, FixedBy};
+ghost use Rattle.word.specs.Words.{held, fourAt, Holds, FixedBy};
 
 // The bit at entry j of the places. The octets are lent here: by value they would be copied for each bit.
 fn bit_at(o: &[u8], places: &[u8], j: usize) -> bool
@@ -95,6 +95,14 @@ fn four(a: u8, b: u8, c: u8, d: u8) -> u32
     ((a as u32 * 256 + b as u32) * 256 + c as u32) * 256 + d as u32
 }
 
+// Four octets from one on as one number.
+fn four_at(o: &[u8], at: usize) -> u32
+    requires { ⌜ at + 4 ≤ length (now o) ⌝ }
+    ensures { λ r. ⌜ r ≡ fourAt (now (o .entry)) at ⌝ }
+{
+    four(o[at], o[at + 1], o[at + 2], o[at + 3])
+}
+
 // Eight octets as one number, from two of four.
 fn eight(high: u32, low: u32) -> u64
     ensures { λ r. ⌜ r ≡ high * 4294967296 + low ⌝ }
@@ -107,12 +115,9 @@ pub fn words_of(o: &[u8]) -> Words
     requires { ⌜ length (now o) ≡ 20 ⌝ }
     ensures { λ r. ⌜ Holds (bitAt (now (o .entry))) (r .a) (r .b) (r .c) ⌝ }
 {
-    let a = eight(four(o[0], o[1], o[2], o[3]), four(o[4], o[5], o[6], o[7]));
-    let b = eight(
-        four(o[8], o[9], o[10], o[11]),
-        four(o[12], o[13], o[14], o[15]),
-    );
-    let c = four(o[16], o[17], o[18], o[19]);
+    let a = eight(four_at(o, 0), four_at(o, 4));
+    let b = eight(four_at(o, 8), four_at(o, 12));
+    let c = four_at(o, 16);
     Words {
         a: a,
         b: b,
