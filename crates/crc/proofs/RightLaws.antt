@@ -14,7 +14,7 @@ use lib.ListN.{getD}
 use Rattle.channel.specs.Coding.{Word, bitsAt, odd}
 use Rattle.channel.specs.Crc.{right}
 use Rattle.word.specs.Words.{Holds}
-use Rattle.crc.specs.Taps.{taps, MasksAt}
+use Rattle.crc.specs.Taps.{taps, ParityOf, oddUnder, MasksAt}
 use Rattle.crc.proofs.TapLaws.{right-taps}
 use Rattle.crc.proofs.ParityLaws.{ones-none}
 
@@ -58,27 +58,29 @@ ones-pair : (x y z : ℕ) → Count.ones (bitXor (bitXor x y) z) % 2 ≡ (Count.
 ones-pair x y z = omega (arith, xor-ones (bitXor x y) z, xor-ones x y)
 
 module _ (g : Word) (ps ms : List ℕ) (at p q r : ℕ) (h : Holds g p q r) (t : MasksAt ps ms at) where
-  first : eqb (Count.ones (bitXor (bitXor (bitAnd p (getD ms at 0)) (bitAnd q (getD ms (at + 1) 0))) (bitAnd r (getD ms (at + 2) 0))) % 2) 1 ≡ odd (bitsAt g (taps (λ r. r .r2) ps))
-  first = ap (λ (n : ℕ). eqb n 1) (ones-pair _ _ _ ∙ t .two .odd-alike g p q r h)
+  -- the parity by three masks is that of the bits at the places they are of
+  odd-is : (i : ℕ) (qs : List ℕ) → ParityOf qs (getD ms i 0) (getD ms (i + 1) 0) (getD ms (i + 2) 0) → oddUnder p q r ms i ≡ odd (bitsAt g qs)
+  odd-is i qs m = ap (λ (n : ℕ). eqb n 1) (ones-pair _ _ _ ∙ m .odd-alike g p q r h)
 
-  second : eqb (Count.ones (bitXor (bitXor (bitAnd p (getD ms (at + 3) 0)) (bitAnd q (getD ms (at + 4) 0))) (bitAnd r (getD ms (at + 5) 0))) % 2) 1 ≡ odd (bitsAt g (taps (λ r. r .r1) ps))
-  second = ap (λ (n : ℕ). eqb n 1) (ones-pair _ _ _ ∙ t .one .odd-alike g p q r h)
+  first : oddUnder p q r ms at ≡ odd (bitsAt g (taps (λ r. r .r2) ps))
+  first = odd-is at _ (t .two)
 
-  third : eqb (Count.ones (bitXor (bitXor (bitAnd p (getD ms (at + 6) 0)) (bitAnd q (getD ms (at + 7) 0))) (bitAnd r (getD ms (at + 8) 0))) % 2) 1 ≡ odd (bitsAt g (taps (λ r. r .r0) ps))
-  third = ap (λ (n : ℕ). eqb n 1) (ones-pair _ _ _ ∙ t .nil .odd-alike g p q r h)
+  second : oddUnder p q r ms (at + 3) ≡ odd (bitsAt g (taps (λ r. r .r1) ps))
+  second = let a : at + 3 + 1 ≡ at + 4 = omega arith in let b : at + 3 + 2 ≡ at + 5 = omega arith in odd-is (at + 3) (taps (λ r. r .r1) ps) (rw (a, b) (t .one))
+
+  third : oddUnder p q r ms (at + 6) ≡ odd (bitsAt g (taps (λ r. r .r0) ps))
+  third = let a : at + 6 + 1 ≡ at + 7 = omega arith in let b : at + 6 + 2 ≡ at + 8 = omega arith in odd-is (at + 6) (taps (λ r. r .r0) ps) (rw (a, b) (t .nil))
 
   -- as the code has it: the first of three tests that fails decides
-  pub right-first : (x : Bool) → x ≡ eqb (Count.ones (bitXor (bitXor (bitAnd p (getD ms at 0)) (bitAnd q (getD ms (at + 1) 0))) (bitAnd r (getD ms (at + 2) 0))) % 2) 1 → not x ≡ true → false ≡ right g ps
+  pub right-first : (x : Bool) → x ≡ oddUnder p q r ms at → not x ≡ true → false ≡ right g ps
   right-first x a e = let z : odd (bitsAt g (taps (λ r. r .r2) ps)) ≡ false = sym (a ∙ first) ∙ not-true x e in sym (right-taps g ps ∙ rw z)
 
-  pub right-second : (x y : Bool) → x ≡ eqb (Count.ones (bitXor (bitXor (bitAnd p (getD ms at 0)) (bitAnd q (getD ms (at + 1) 0))) (bitAnd r (getD ms (at + 2) 0))) % 2) 1 → not x ≡ false → y ≡ eqb (Count.ones (bitXor (bitXor (bitAnd p (getD ms (at + 3) 0)) (bitAnd q (getD ms (at + 4) 0))) (bitAnd r (getD ms (at + 5) 0))) % 2) 1 → not y ≡ true → false ≡ right g ps
-  right-second x y a e b f =
-      let z : odd (bitsAt g (taps (λ r. r .r2) ps)) ≡ true = sym (a ∙ first) ∙ not-false x e in
-      let u : odd (bitsAt g (taps (λ r. r .r1) ps)) ≡ false = sym (b ∙ second) ∙ not-true y f in
-      sym (right-taps g ps ∙ rw (z, u))
+  module _ (x y : Bool) (a : x ≡ oddUnder p q r ms at) (e : not x ≡ false) (b : y ≡ oddUnder p q r ms (at + 3)) where
+    z : odd (bitsAt g (taps (λ r. r .r2) ps)) ≡ true
+    z = sym (a ∙ first) ∙ not-false x e
 
-  pub right-third : (x y v : Bool) → x ≡ eqb (Count.ones (bitXor (bitXor (bitAnd p (getD ms at 0)) (bitAnd q (getD ms (at + 1) 0))) (bitAnd r (getD ms (at + 2) 0))) % 2) 1 → not x ≡ false → y ≡ eqb (Count.ones (bitXor (bitXor (bitAnd p (getD ms (at + 3) 0)) (bitAnd q (getD ms (at + 4) 0))) (bitAnd r (getD ms (at + 5) 0))) % 2) 1 → not y ≡ false → v ≡ eqb (Count.ones (bitXor (bitXor (bitAnd p (getD ms (at + 6) 0)) (bitAnd q (getD ms (at + 7) 0))) (bitAnd r (getD ms (at + 8) 0))) % 2) 1 → v ≡ right g ps
-  right-third x y v a e b f c =
-      let z : odd (bitsAt g (taps (λ r. r .r2) ps)) ≡ true = sym (a ∙ first) ∙ not-false x e in
-      let u : odd (bitsAt g (taps (λ r. r .r1) ps)) ≡ true = sym (b ∙ second) ∙ not-false y f in
-      c ∙ third ∙ sym (right-taps g ps ∙ rw (z, u))
+    pub right-second : not y ≡ true → false ≡ right g ps
+    right-second f = let u : odd (bitsAt g (taps (λ r. r .r1) ps)) ≡ false = sym (b ∙ second) ∙ not-true y f in sym (right-taps g ps ∙ rw (z, u))
+
+    pub right-third : (v : Bool) → not y ≡ false → v ≡ oddUnder p q r ms (at + 6) → v ≡ right g ps
+    right-third v f c = let u : odd (bitsAt g (taps (λ r. r .r1) ps)) ≡ true = sym (b ∙ second) ∙ not-false y f in c ∙ third ∙ sym (right-taps g ps ∙ rw (z, u))

@@ -4,8 +4,9 @@ use mathlib.Core.Path.{_≡_}
 use mathlib.Core.Bool.{Bool, true, false, cond}
 use mathlib.Core.List.{List, [], _∷_}
 use Prim.Native.Nat.{ℕ, _+_, _%_}
-use lib.Bits.{bitAnd}
+use lib.Bits.{bitAnd, bitXor}
 use lib.Count as Count
+use lib.Dec.{eqb}
 use lib.ListN.{length, getD}
 use Rattle.channel.specs.Poly.{Rem}
 use Rattle.channel.specs.Coding.{Word, bitsAt, ones}
@@ -35,6 +36,10 @@ taps f (p ∷ ps) = cond (f (power (length ps))) (p ∷ taps f ps) (taps f ps)
 -- the ones of the three numbers under three masks are odd in number where the bits at some places are
 pub record ParityOf (ps : List ℕ) (a b c : ℕ) : Type 0 where
   pub odd-alike : (g : Word) (p q r : ℕ) → Holds g p q r → (Count.ones (bitAnd p a) + Count.ones (bitAnd q b) + Count.ones (bitAnd r c)) % 2 ≡ ones (bitsAt g ps) % 2
+
+-- whether the ones of the three numbers under the three masks from entry i on are odd in number
+abbrev pub oddUnder : ℕ → ℕ → ℕ → List ℕ → ℕ → Bool
+oddUnder p q r ms i = eqb (Count.ones (bitXor (bitXor (bitAnd p (getD ms i 0)) (bitAnd q (getD ms (i + 1) 0))) (bitAnd r (getD ms (i + 2) 0))) % 2) 1
 
 -- nine masks from entry `at` on: for each coefficient of the remainder three, of the places that it is the parity of
 pub record MasksAt (ps ms : List ℕ) (at : ℕ) : Type 0 where

@@ -11,7 +11,7 @@ ghost use Rattle.bits.specs.Bit.{bitAt, toN};
 ghost use Rattle.channel.specs.Crc.{right};
 ghost use Rattle.word.specs.Below.{Below};
 ghost use Rattle.word.specs.Words.{Holds};
-ghost use Rattle.crc.specs.Taps.{ParityOf, MasksAt};
+ghost use Rattle.crc.specs.Taps.{ParityOf, oddUnder, MasksAt};
 use word::Words;
 
 // Whether the ones of the words under three masks are odd in number, by the language's own count.
@@ -21,19 +21,27 @@ fn odd_under(w: Words, a: u64, b: u64, c: u64) -> bool
     u64::count_ones((w.a & a) ^ (w.b & b) ^ (w.c & c)) % 2 == 1
 }
 
+// The same by three masks from entry `at` on.
+fn odd_at(w: Words, m: &[u64], at: usize) -> bool
+    requires { ⌜ at + 3 ≤ length (now m) ⌝ }
+    ensures { λ r. ⌜ r ≡ oddUnder (w .a) (w .b) (w .c) (now (m .entry)) at ⌝ }
+{
+    odd_under(w, m[at], m[at + 1], m[at + 2])
+}
+
 // Whether a CRC is right, by nine masks from entry `at` on: each coefficient of the remainder is a parity over the places whose powers have it, and all
 // three are to be one.
 pub fn right_by(w: Words, m: &[u64], at: usize) -> bool
     requires { ⌜ at + 9 ≤ length (now m) ⌝ }
     ensures { λ r. ⌜ ((o : List ℕ) (ps : List ℕ) → Holds (bitAt o) (w .a) (w .b) (w .c) → MasksAt ps (now (m .entry)) at → r ≡ right (bitAt o) ps) ⌝ }
 {
-    if !odd_under(w, m[at], m[at + 1], m[at + 2]) {
+    if !odd_at(w, m, at) {
         return false;
     }
-    if !odd_under(w, m[at + 3], m[at + 4], m[at + 5]) {
+    if !odd_at(w, m, at + 3) {
         return false;
     }
-    odd_under(w, m[at + 6], m[at + 7], m[at + 8])
+    odd_at(w, m, at + 6)
 }
 
 // A mask over the three words with the bit of a place turned, where x is one.
