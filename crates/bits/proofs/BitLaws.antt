@@ -1,21 +1,21 @@
--- Octets and their bits: the bits of an octet, the octet that has given bits, and what shifting two bytes and cutting off low bits make of them.
+-- Bits as a number; octets and their bits: the bits of an octet, the octet that has given bits, and what shifting two bytes and cutting off low bits make of them.
 -- Assumes nothing.
 use mathlib.Core.Path.{_≡_, refl, ap, sym, _∙_, fun-ext}
 use mathlib.Core.Logic.{by-cases}
 use mathlib.Core.Bool.{Bool, true, false, _&&_}
-use mathlib.Core.List.{List, map}
+use mathlib.Core.List.{List, [], _∷_, _++_, map}
 use Prim.Native.Nat.{ℕ, zero, suc, _+_, _*_, _-_, _/_, _%_, _^_, _<_, _≤_}
-use native.Mathlib.Nat.{not-suc-le-zero, le-of-suc-le-suc, add-zero, zero-add, zero-div, mul-assoc}
+use native.Mathlib.Nat.{not-suc-le-zero, le-of-suc-le-suc, add-zero, zero-add, zero-div, add-mul, mul-assoc, mul-comm, pow-suc}
 use native.Mathlib.Numerals.{add-one}
 use native.Mathlib.Decide.{decLt}
 use native.Mathlib.Omega.{arith}
 use borrow.Author.Tests.{lt-ltb, le-ltb}
 use lib.Dec.{eqb, ltb, lit<}
-use lib.ListN.{length, getD, List·getD-eq-default}
+use lib.ListN.{length, getD}
 use lib.Pow.{pow-add, shr-lt, shr-shr, shl-shr, shl-exact, high, low, field, mod-mod-pow}
 use lib.Seq.{ext-getD}
-use Rattle.bits.specs.Bit.{bitAt, toN, numberFrom, count, octetOf, twenty, bitsFrom}
-use Rattle.bits.proofs.CountLaws.{length-map-count, getD-map-count, map-count-same}
+use Rattle.bits.specs.Bit.{bitAt, toN, numberFrom, number, count, octetOf, twenty, bitsFrom}
+use Rattle.bits.proofs.CountLaws.{length-map-count, getD-count, getD-map-count, map-count-same}
 
 -- a bit is 0 or 1
 pub toN-lt : (b : Bool) → toN b < 2
@@ -33,25 +33,53 @@ one-toN zero h = refl
 one-toN (suc zero) h = refl
 one-toN (suc (suc x)) h = absurd (not-suc-le-zero (le-of-suc-le-suc (le-of-suc-le-suc h)))
 
--- above m bits that are put behind a stands a
-above : (g : ℕ → Bool) (m b a : ℕ) → numberFrom a (map g (count m b)) / 2 ^ m ≡ a
-above g zero b a = omega arith
-above g (suc m) b a =
-    let v = numberFrom (2 * a + toN (g b)) (map g (count m (suc b))) in
-    let e : v / 2 ^ m ≡ 2 * a + toN (g b) = above g m (suc b) (2 * a + toN (g b)) in
-    let h : v / 2 ^ m / 2 ^ 1 ≡ a = rw e (omega (arith, toN-lt (g b))) in
-    rw add-one at (sym (shr-shr v m 1)) ∙ h
+-- bits behind bits
+pub number-append : (xs ys : List Bool) (a : ℕ) → numberFrom a (xs ++ ys) ≡ numberFrom (numberFrom a xs) ys
+number-append [] ys a = refl
+number-append (x ∷ xs) ys a = number-append xs ys (2 * a + toN x)
+
+-- what stands above the digits of a list is pushed up by them
+pub number-from : (bs : List Bool) (a : ℕ) → numberFrom a bs ≡ a * 2 ^ length bs + number bs
+number-from [] a = omega arith
+number-from (b ∷ bs) a =
+    let e : 2 ^ suc (length bs) ≡ 2 ^ length bs * 2 = pow-suc 2 (length bs) in
+    let f : (2 * a + toN b) * 2 ^ length bs ≡ a * (2 ^ length bs * 2) + toN b * 2 ^ length bs =
+    add-mul (2 * a) (toN b) (2 ^ length bs)
+    ∙ ap (λ (n : ℕ). n + toN b * 2 ^ length bs) (ap (λ (n : ℕ). n * 2 ^ length bs) (mul-comm 2 a) ∙ mul-assoc a 2 (2 ^ length bs) ∙ ap (λ (n : ℕ). a * n) (mul-comm 2 (2 ^ length bs))) in
+    let z : 2 * 0 + toN b ≡ toN b = omega arith in
+    let g : numberFrom (2 * 0 + toN b) bs ≡ toN b * 2 ^ length bs + number bs = ap (λ (n : ℕ). numberFrom n bs) z ∙ number-from bs (toN b) in
+    number-from bs (2 * a + toN b) ∙ rw (e, g) (omega arith)
+
+-- and is no more than they hold
+pub number-lt : (bs : List Bool) → number bs < 2 ^ length bs
+number-lt [] = omega arith
+number-lt (b ∷ bs) =
+    let z : 2 * 0 + toN b ≡ toN b = omega arith in
+    rw (pow-suc 2 (length bs), z, number-from bs (toN b)) (go b (number-lt bs))
+  where
+    go : (b : Bool) → number bs < 2 ^ length bs → toN b * 2 ^ length bs + number bs < 2 ^ length bs * 2
+    go true h = omega arith
+    go false h = omega arith
+
+-- so above the bits that are put behind a stands a
+above : (bs : List Bool) (a : ℕ) → numberFrom a bs / 2 ^ length bs ≡ a
+above bs a = rw (number-from bs a) (high a (length bs) (number-lt bs))
 
 -- and below it each of the bits in its place
-digit : (g : ℕ → Bool) (m b a j : ℕ) → j < m → numberFrom a (map g (count m b)) / 2 ^ (m - suc j) % 2 ≡ toN (g (b + j))
-digit g zero b a j h = absurd (not-suc-le-zero h)
-digit g (suc m) b a zero h =
-    let e : suc m - 1 ≡ m = omega arith in
-    rw (e, above g m (suc b) (2 * a + toN (g b)), add-zero b) (omega (arith, toN-lt (g b)))
-digit g (suc m) b a (suc j) h =
-    let e : suc m - suc (suc j) ≡ m - suc j = omega arith in
-    let i : suc b + j ≡ b + suc j = omega arith in
-    rw e (digit g m (suc b) (2 * a + toN (g b)) j (le-of-suc-le-suc h) ∙ ap (λ (k : ℕ). toN (g k)) i)
+pub digit : (bs : List Bool) (a j : ℕ) → j < length bs → numberFrom a bs / 2 ^ (length bs - suc j) % 2 ≡ toN (getD bs j false)
+digit [] a j h = absurd (not-suc-le-zero h)
+digit (b ∷ bs) a zero h =
+    let e : suc (length bs) - 1 ≡ length bs = omega arith in
+    rw (e, above bs (2 * a + toN b)) (omega (arith, toN-lt b))
+digit (b ∷ bs) a (suc j) h =
+    let e : suc (length bs) - suc (suc j) ≡ length bs - suc j = omega arith in
+    rw e (digit bs (2 * a + toN b) j (le-of-suc-le-suc h))
+
+-- a bit of a list of bits at places
+pub getD-bits : (g : ℕ → Bool) (ps : List ℕ) (i : ℕ) → i < length ps → getD (map g ps) i false ≡ g (getD ps i 0)
+getD-bits g [] i h = absurd (not-suc-le-zero h)
+getD-bits g (p ∷ ps) zero h = refl
+getD-bits g (p ∷ ps) (suc i) h = getD-bits g ps i (le-of-suc-le-suc h)
 
 -- a number is what is above its m low bits, with these put behind it
 pub rebuilt : (g : ℕ → Bool) (m b x : ℕ) → ((j : ℕ) → j < m → x / 2 ^ (m - suc j) % 2 ≡ toN (g (b + j))) → numberFrom (x / 2 ^ m) (map g (count m b)) ≡ x
@@ -67,20 +95,15 @@ rebuilt g (suc m) b x h =
     let d : suc m - suc (suc j) ≡ m - suc j = omega arith in
     rw d at (h (suc j) (omega arith)) ∙ ap (λ (k : ℕ). toN (g k)) i)
 
--- an octet is below 256
-pub octet-lt : (g : ℕ → Bool) (k : ℕ) → octetOf g k < 256
-unfolding octetOf
-octet-lt g k = let e = above g 8 (8 * k) 0 in omega arith
-
 -- bit j of octet k is the bit g (8 k + j)
 pub octet-bit : (g : ℕ → Bool) (k j : ℕ) → j < 8 → octetOf g k / 2 ^ (7 - j) % 2 ≡ toN (g (8 * k + j))
 unfolding octetOf
 octet-bit g k j h =
     let e : 8 - suc j ≡ 7 - j = omega arith in
-    rw e at (digit g 8 (8 * k) 0 j h)
+    rw e at (digit (map g (count 8 (8 * k))) 0 j h) ∙ ap toN (getD-bits g (count 8 (8 * k)) j h ∙ ap g (getD-count 8 (8 * k) j h))
 
 -- an octet is determined by its bits
-pub octet-one : (g : ℕ → Bool) (k x : ℕ) → x < 256 → ((j : ℕ) → j < 8 → x / 2 ^ (7 - j) % 2 ≡ toN (g (8 * k + j))) → x ≡ octetOf g k
+octet-one : (g : ℕ → Bool) (k x : ℕ) → x < 256 → ((j : ℕ) → j < 8 → x / 2 ^ (7 - j) % 2 ≡ toN (g (8 * k + j))) → x ≡ octetOf g k
 unfolding octetOf
 octet-one g k x h bits =
     let z : x / 2 ^ 8 ≡ 0 = omega arith in
@@ -107,16 +130,6 @@ twenty-bit g i h =
     let e : 8 * (0 + i / 8) + i % 8 ≡ i = omega arith in
     let one : octetOf g (0 + i / 8) / 2 ^ (7 - i % 8) % 2 ≡ toN (g i) = rw e at (octet-bit g (0 + i / 8) (i % 8) (omega arith)) in
     ap (λ (x : ℕ). eqb (x / 2 ^ (7 - i % 8) % 2) 1) at ∙ ap (λ (x : ℕ). eqb x 1) one ∙ toN-one (g i)
-
--- each of them is below 256
-pub twenty-lt : (g : ℕ → Bool) (k : ℕ) → getD (twenty g) k 0 < 256
-unfolding twenty
-twenty-lt g k =
-    by-cases (decLt k 20)
-    (λ (l : k < 20). rw (getD-map-count (octetOf g) 20 0 k l) (octet-lt g (0 + k)))
-    (λ (m : ¬ (k < 20)).
-    let past-end : length (map (octetOf g) (count 20 0)) ≤ k = omega (arith, length-map-count (octetOf g) 20 0) in
-    rw (List·getD-eq-default {A = ℕ} (map (octetOf g) (count 20 0)) 0 past-end) (lit< tt))
 
 -- bit j of byte k, as bitAt has it
 pub byte-bit : (xs : List ℕ) (k j : ℕ) → j < 8 → getD xs k 0 / 2 ^ (7 - j) % 2 ≡ toN (bitAt xs (8 * k + j))

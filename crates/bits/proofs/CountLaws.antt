@@ -3,7 +3,7 @@
 use mathlib.Core.Path.{_≡_, refl, ap, sym, _∙_}
 use mathlib.Core.List.{List, [], _∷_, _++_, map}
 use Prim.Native.Nat.{ℕ, zero, suc, _+_, _<_, zero-le, suc-le-suc}
-use native.Mathlib.Nat.{not-suc-le-zero, le-of-suc-le-suc, add-zero}
+use native.Mathlib.Nat.{not-suc-le-zero, le-of-suc-le-suc, add-zero, zero-add}
 use native.Mathlib.Numerals.{add-one}
 use native.Mathlib.Omega.{arith}
 use lib.ListN.{length, set, drop, getD, length-map}
@@ -15,8 +15,22 @@ length-count zero a = refl
 length-count (suc n) a = ap suc (length-count n (suc a))
 
 -- so has what is made of them
-pub length-map-count : (f : ℕ → ℕ) (n a : ℕ) → length (map f (count n a)) ≡ n
+pub length-map-count : {A : Type 0} (f : ℕ → A) (n a : ℕ) → length (map f (count n a)) ≡ n
 length-map-count f n a = length-map (count n a) f ∙ length-count n a
+
+-- at i below the length stands a + i
+pub getD-count : (k a i : ℕ) → i < k → getD (count k a) i 0 ≡ a + i
+getD-count zero a i h = absurd (omega arith)
+getD-count (suc k) a zero h = omega arith
+getD-count (suc k) a (suc i) h = let e : suc a + i ≡ a + suc i = omega arith in getD-count k (suc a) i (omega arith) ∙ e
+
+-- the first c of what is made of them, and the others
+pub map-count-split : {A : Type 0} (f : ℕ → A) (c d x : ℕ) → map f (count (c + d) x) ≡ map f (count c x) ++ map f (count d (x + c))
+map-count-split f zero d x = rw (zero-add d, add-zero x)
+map-count-split {A} f (suc c) d x =
+    let e : suc c + d ≡ suc (c + d) = omega arith in
+    let b : x + suc c ≡ suc x + c = omega arith in
+    rw (e, b) (ap (λ (xs : List A). f x ∷ xs) (map-count-split f c d (suc x)))
 
 -- at k below the length stands f (a + k)
 pub getD-map-count : (f : ℕ → ℕ) (n a k : ℕ) → k < n → getD (map f (count n a)) k 0 ≡ f (a + k)

@@ -6,14 +6,12 @@ use mathlib.Core.List.{List, [], _∷_, _++_, map}
 use Prim.Native.Nat.{ℕ, zero, suc, _+_, _*_, _-_, _/_, _%_, _^_, _<_, _≤_}
 use native.Mathlib.Omega.{arith}
 use native.Mathlib.Nat.{add-zero, not-suc-le-zero, le-of-suc-le-suc, zero-add}
-use native.Mathlib.Numerals.{add-one}
 use borrow.Author.Tests.{eq-eqb}
 use lib.Dec.{eqb, lit<}
 use lib.ListN.{length-take, length, getD, take, drop, replicate, length-map, length-append, length-drop, drop-of-length-le, List·getD-eq-default}
-use lib.Pow.{shr-shr}
 use lib.Seq.{getD-take, getD-drop, length-take-le}
 use Rattle.bits.specs.Bit.{bitAt, toN, numberFrom, number, count}
-use Rattle.bits.proofs.BitLaws.{toN-lt, toN-one}
+use Rattle.bits.proofs.BitLaws.{toN-one, digit, getD-bits}
 use Rattle.bits.proofs.CountLaws.{getD-map-count}
 use Rattle.channel.specs.declared.Kind.{Kind}
 use Rattle.channel.specs.declared.Kind.the-variants.{Speech, Data, Om, Configuration, NoSpeech, Lower, Amr670, Amr740}
@@ -27,7 +25,7 @@ use Rattle.word.specs.Below.{Below}
 use Rattle.dbits.specs.DBits.{allPlaces, dFrom, dBytes}
 
 -- a kind's part of the table is the list of its D places
-pub d-part : (k : Kind) → take (dCount k) (drop (dFrom k) allPlaces) ≡ dPlaces k
+d-part : (k : Kind) → take (dCount k) (drop (dFrom k) allPlaces) ≡ dPlaces k
 unfolding allPlaces dPlaces
 d-part Speech = refl
 d-part Data = refl
@@ -138,25 +136,6 @@ part-below ps a n h i l =
     let m : i < n = omega (arith, length-take n (drop a ps)) in
     rw (getD-take n (drop a ps) i 0 m, getD-drop a ps i 0) (h (a + i) (omega (arith, length-take n (drop a ps), length-drop a ps)))
 
--- above the bits that are put behind a stands a
-above : (bs : List Bool) (a : ℕ) → numberFrom a bs / 2 ^ length bs ≡ a
-above [] a = omega arith
-above (b ∷ bs) a =
-    let v = numberFrom (2 * a + toN b) bs in
-    let e : v / 2 ^ length bs ≡ 2 * a + toN b = above bs (2 * a + toN b) in
-    let h : v / 2 ^ length bs / 2 ^ 1 ≡ a = rw e (omega (arith, toN-lt b)) in
-    rw add-one at (sym (shr-shr v (length bs) 1)) ∙ h
-
--- and below it each of the bits in its place
-digit : (bs : List Bool) (a j : ℕ) → j < length bs → numberFrom a bs / 2 ^ (length bs - suc j) % 2 ≡ toN (getD bs j false)
-digit [] a j h = absurd (not-suc-le-zero h)
-digit (b ∷ bs) a zero h =
-    let e : suc (length bs) - 1 ≡ length bs = omega arith in
-    rw (e, above bs (2 * a + toN b)) (omega (arith, toN-lt b))
-digit (b ∷ bs) a (suc j) h =
-    let e : suc (length bs) - suc (suc j) ≡ length bs - suc j = omega arith in
-    rw e (digit bs (2 * a + toN b) j (le-of-suc-le-suc h))
-
 -- zeros behind some bits do not show
 zeros-unseen : (bs : List Bool) (m j : ℕ) → getD (bs ++ replicate m false) j false ≡ getD bs j false
 zeros-unseen [] zero j = refl
@@ -186,12 +165,6 @@ bytes-bit g k i h =
     ap (λ (x : ℕ). eqb (x / 2 ^ (7 - i % 8) % 2) 1) at
     ∙ ap (λ (x : ℕ). eqb x 1) (fromTop-bit (drop (8 * (i / 8)) bs) (i % 8) (omega arith) ∙ ap toN one)
     ∙ toN-one (getD bs i false)
-
--- a bit of a list of bits at places
-getD-bits : (g : Word) (ps : List ℕ) (i : ℕ) → i < length ps → getD (bitsAt g ps) i false ≡ g (getD ps i 0)
-getD-bits g [] i h = absurd (not-suc-le-zero h)
-getD-bits g (p ∷ ps) zero h = refl
-getD-bits g (p ∷ ps) (suc i) h = getD-bits g ps i (le-of-suc-le-suc h)
 
 -- bit i of the bytes is D bit i + 1
 pub dBytes-bit : (g : Word) (k : Kind) (i : ℕ) → i < dCount k → bitAt (dBytes g k) i ≡ g (getD (dPlaces k) i 0)

@@ -1,20 +1,18 @@
 -- Neighbouring bits taken at once: places that are two runs of neighbours give a number of two.
 -- Assumes nothing.
-use mathlib.Core.Path.{_≡_, refl, sym, _∙_, ap, ap₂}
+use mathlib.Core.Path.{_≡_, sym, _∙_, ap, ap₂}
 use mathlib.Core.Logic.{by-cases}
-use mathlib.Core.Bool.{Bool}
 use mathlib.Core.List.{List, [], _∷_, _++_, map-append}
 use Prim.Native.Nat.{ℕ, zero, suc, _+_, _*_, _-_, _/_, _%_, _^_, _<_, _≤_}
 use native.Mathlib.Nat.{mod-lt, add-zero, zero-add, div-eq-of-lt}
 use native.Mathlib.Decide.{decLt}
 use native.Mathlib.Omega.{arith}
-use lib.ListN.{length, length-map, getD, take, drop, length-append, length-take, length-drop, List·getD-append}
+use lib.ListN.{length, getD, take, drop, length-append, length-take, length-drop, List·getD-append}
 use lib.Pow.{pow-pos, shr-shr}
 use lib.Seq.{ext-getD, getD-append-add, getD-take, getD-drop}
-use Rattle.bits.specs.Bit.{bitAt, toN, number, numberFrom, count}
-use Rattle.bits.proofs.BitLaws.{rebuilt, low-bit, byte-bit}
-use Rattle.bits.proofs.CountLaws.{length-count}
-use Rattle.word.proofs.FieldLaws.{number-from}
+use Rattle.bits.specs.Bit.{bitAt, toN, number, count}
+use Rattle.bits.proofs.BitLaws.{number-append, number-from, rebuilt, low-bit, byte-bit}
+use Rattle.bits.proofs.CountLaws.{length-count, length-map-count, getD-count}
 use Rattle.channel.specs.Coding.{Word, bitsAt}
 use Rattle.channel.proofs.DLaws.{Rises}
 use Rattle.dbits.specs.DBits.{Rising}
@@ -60,11 +58,6 @@ neighbours ps h a r l e i m =
     let down : getD ps (a + i) 0 + (r - i) ≤ getD ps (a + r) 0 = rw q at (climbs ps h (a + i) (r - i) (omega arith)) in
     omega arith
 
-getD-count : (k a i : ℕ) → i < k → getD (count k a) i 0 ≡ a + i
-getD-count zero a i h = absurd (omega arith)
-getD-count (suc k) a zero h = omega arith
-getD-count (suc k) a (suc i) h = let e : suc a + i ≡ a + suc i = omega arith in getD-count k (suc a) i (omega arith) ∙ e
-
 -- places that are two runs
 pub runs-two : (ps : List ℕ) (s : ℕ) → Rising ps → s < length ps → FirstRun ps s → getD ps (length ps - 1) 0 ≡ getD ps s 0 + (length ps - 1 - s)
     → ps ≡ count s (getD ps 0 0) ++ count (length ps - s) (getD ps s 0)
@@ -96,17 +89,12 @@ first-run ps s h l low e i m =
     let z : 0 + (s - 1) ≡ s - 1 = omega arith in
     rw (zero-add i) at (neighbours ps h 0 (s - 1) (omega arith) (rw z e) i (omega arith))
 
--- a number of bits behind others
-number-append : (cs bs : List Bool) (a : ℕ) → numberFrom a (cs ++ bs) ≡ numberFrom (numberFrom a cs) bs
-number-append [] bs a = refl
-number-append (b ∷ cs) bs a = number-append cs bs (2 * a + toN b)
-
 -- two runs behind each other, by their numbers
 pub pair-number : (g : Word) (p s q t : ℕ) → number (bitsAt g (count s p ++ count t q)) ≡ number (bitsAt g (count s p)) * 2 ^ t + number (bitsAt g (count t q))
 pair-number g p s q t =
     let first = bitsAt g (count s p) in
     let second = bitsAt g (count t q) in
-    let n : length second ≡ t = length-map (count t q) g ∙ length-count t q in
+    let n : length second ≡ t = length-map-count g t q in
     ap number (map-append g (count s p) (count t q)) ∙ number-append first second 0 ∙ number-from second (number first) ∙ rw n
 
 -- a part of rising places rises

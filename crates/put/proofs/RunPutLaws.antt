@@ -13,13 +13,12 @@ use native.Mathlib.Omega.{arith}
 use lib.Arith.{digits-lt}
 use lib.Bits.{bitAnd, and-high}
 use lib.Dec.{eqb, lit<}
-use lib.ListN.{length, getD, set, drop, replicate, length-set, length-map}
+use lib.ListN.{length, getD, set, drop, replicate, length-set}
 use lib.Pow.{pow-pos, pow-add, shr-lt, shl-shr, shr-shr, shr-le, high, low, split, mod-pow-add, mod-mod-pow}
 use lib.Seq.{drop-cons, getD-set-same, getD-set-other, set-getD, set-set}
 use Rattle.bits.specs.Bit.{bitAt, toN, number, numberFrom, count, octetOf, bitsFrom}
-use Rattle.bits.proofs.BitLaws.{rebuilt, octet-whole, octet-bit, byte-bit}
-use Rattle.bits.proofs.CountLaws.{length-count, map-count-same}
-use Rattle.word.proofs.FieldLaws.{number-from}
+use Rattle.bits.proofs.BitLaws.{number-from, rebuilt, octet-whole, octet-bit, byte-bit}
+use Rattle.bits.proofs.CountLaws.{length-count, length-map-count, map-count-split, map-count-same}
 use Rattle.put.specs.Put.{putIn, putRun, Shows, RunAt, putBit, putBits, putPlaces}
 use Rattle.put.proofs.PutLaws.{puts-append, places-append, places-run}
 
@@ -144,14 +143,11 @@ top-number g a c x l h bits =
     let f : 8 - c + (c - suc j) ≡ 7 - j = omega arith in
     rw (shr-shr x (8 - c) (c - suc j), f) (bits j (omega arith))))
 
-length-bits : (g : ℕ → Bool) (c a : ℕ) → length (map g (count c a)) ≡ c
-length-bits g c a = length-map (count c a) g ∙ length-count c a
-
 -- the first c bits of a byte, put inside one byte
 pub top-put : (s : List ℕ) (p c x : ℕ) (g : ℕ → Bool) (a : ℕ) → p % 8 + c ≤ 8 → p / 8 < length s → x < 256 → Shows x g a
     → set s (p / 8) (putRun (getD s (p / 8) 0) (p % 8) c (x / 2 ^ (8 - c))) ≡ putBits s p (map g (count c a))
 top-put s p c x g a l i h bits =
-    let n = length-bits g c a in
+    let n = length-map-count g c a in
     let e : 8 * (p / 8) + p % 8 ≡ p = omega arith in
     let run : putBits s (8 * (p / 8) + p % 8) (map g (count c a)) ≡ set s (p / 8) (putRun (getD s (p / 8) 0) (p % 8) (length (map g (count c a))) (number (map g (count c a)))) =
     run-put (map g (count c a)) s (p / 8) (p % 8) (omega arith) i in
@@ -195,13 +191,6 @@ zeros-show a j l = octet-bit (λ _. false) 0 j l
 abbrev pub left : (ℕ → Bool) → List ℕ → ℕ → ℕ → ℕ → List ℕ
 left g s p k x = putBits s (p + x) (map g (count (k - x) x))
 
-count-split : (g : ℕ → Bool) (c d x : ℕ) → map g (count (c + d) x) ≡ map g (count c x) ++ map g (count d (x + c))
-count-split g zero d x = rw (zero-add d, add-zero x)
-count-split g (suc c) d x =
-    let e : suc c + d ≡ suc (c + d) = omega arith in
-    let f : x + suc c ≡ suc x + c = omega arith in
-    rw (e, f) (ap (λ (bs : List Bool). g x ∷ bs) (count-split g c d (suc x)))
-
 module _ (g : ℕ → Bool) (s : List ℕ) (p k : ℕ) where
   left-all : left g s p k 0 ≡ putBits s p (map g (count k 0))
   left-all = rw (add-zero p, sub-zero k)
@@ -210,7 +199,7 @@ module _ (g : ℕ → Bool) (s : List ℕ) (p k : ℕ) where
   left-next x c l =
       let e : k - x ≡ c + (k - (x + c)) = omega arith in
       let f : p + x + c ≡ p + (x + c) = omega arith in
-      rw (e, count-split g c (k - (x + c)) x, puts-append (map g (count c x)) (map g (count (k - (x + c)) (x + c))) s (p + x), length-bits g c x, f)
+      rw (e, map-count-split g c (k - (x + c)) x, puts-append (map g (count c x)) (map g (count (k - (x + c)) (x + c))) s (p + x), length-map-count g c x, f)
 
   left-end : left g s p k k ≡ s
   unfolding putBits

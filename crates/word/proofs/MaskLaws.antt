@@ -3,7 +3,7 @@
 use mathlib.Core.Path.{_≡_, refl, sym, _∙_, ap, ap₂}
 use mathlib.Core.Logic.{by-cases}
 use mathlib.Core.Bool.{Bool, true, false, not, _&&_, cond, Bool·beq, and-true, and-false, and-assoc}
-use mathlib.Core.List.{List, [], _∷_, _++_, map, map-append}
+use mathlib.Core.List.{List, [], _∷_, _++_, map}
 use Prim.Native.Nat.{ℕ, zero, suc, _+_, _*_, _-_, _/_, _%_, _^_, _<_, min, zero-le}
 use native.Mathlib.Omega.{arith}
 use native.Mathlib.Decide.{ℕ-discrete}
@@ -11,7 +11,8 @@ use borrow.Author.Tests.{eq-eqb, ne-eqb, ltb-true, not-true}
 use lib.Bits.{bitAnd, and-step}
 use lib.Dec.{eqb, ltb}
 use Rattle.bits.specs.Bit.{toN, numberFrom, number, count, bitAt}
-use Rattle.bits.proofs.BitLaws.{toN-lt, byte-bit, rebuilt}
+use Rattle.bits.proofs.BitLaws.{toN-lt, byte-bit, rebuilt, number-append}
+use Rattle.bits.proofs.CountLaws.{map-count-split}
 use Rattle.channel.specs.Coding.{Word, all}
 use lib.ListN.{getD}
 use Rattle.channel.specs.Places.{elem}
@@ -184,20 +185,6 @@ fixed-masked g zeros ons mask fixed p q r a b c x y z h m v by =
 
 -- ---- bytes into the three numbers
 
-pub count-split : (j m p : ℕ) → count (j + m) p ≡ count j p ++ count m (p + j)
-count-split zero m p =
-    let e : 0 + m ≡ m = omega arith in
-    let f : p + 0 ≡ p = omega arith in
-    rw (e, f)
-count-split (suc j) m p =
-    let e : suc j + m ≡ suc (j + m) = omega arith in
-    let f : p + suc j ≡ suc p + j = omega arith in
-    rw (e, f) (ap (λ (l : List ℕ). p ∷ l) (count-split j m (suc p)))
-
-pub number-append : (xs ys : List Bool) (a : ℕ) → numberFrom a (xs ++ ys) ≡ numberFrom (numberFrom a xs) ys
-number-append [] ys a = refl
-number-append (x ∷ xs) ys a = number-append xs ys (2 * a + toN x)
-
 eight-from : (a : ℕ) (b0 b1 b2 b3 b4 b5 b6 b7 : Bool)
     → numberFrom a (b0 ∷ b1 ∷ b2 ∷ b3 ∷ b4 ∷ b5 ∷ b6 ∷ b7 ∷ []) ≡ a * 256 + numberFrom 0 (b0 ∷ b1 ∷ b2 ∷ b3 ∷ b4 ∷ b5 ∷ b6 ∷ b7 ∷ [])
 eight-from a b0 b1 b2 b3 b4 b5 b6 b7 = omega arith
@@ -225,8 +212,7 @@ module _ (s : List ℕ) (fits : (k : ℕ) → getD s k 0 < 256) where
       let e : 8 * suc m ≡ 8 + 8 * m = omega arith in
       let f : 8 * k + 8 ≡ 8 * suc k = omega arith in
       ap (λ (n : ℕ). numberFrom a (map (bitAt s) (count n (8 * k)))) e
-      ∙ ap (λ (l : List ℕ). numberFrom a (map (bitAt s) l)) (count-split 8 (8 * m) (8 * k))
-      ∙ ap (numberFrom a) (map-append (bitAt s) (count 8 (8 * k)) (count (8 * m) (8 * k + 8)))
+      ∙ ap (numberFrom a) (map-count-split (bitAt s) 8 (8 * m) (8 * k))
       ∙ number-append (map (bitAt s) (count 8 (8 * k))) (map (bitAt s) (count (8 * m) (8 * k + 8))) a
       ∙ ap₂ (λ (n q : ℕ). numberFrom n (map (bitAt s) (count (8 * m) q))) (byte-push k a) f
       ∙ bytes-push m (suc k) (a * 256 + getD s k 0)

@@ -5,15 +5,15 @@ use mathlib.Core.Bool.{Bool, true, false}
 use mathlib.Core.List.{List, [], _∷_, _++_}
 use Prim.Native.Nat.{ℕ, zero, suc, _+_, _*_, _-_, _/_, _%_, _^_, _<_, _≤_}
 use native.Mathlib.Omega.{arith}
-use native.Mathlib.Nat.{zero-add, add-zero, sub-zero, pow-suc, mul-assoc, mul-comm, mod-eq-of-lt, not-suc-le-zero, le-of-suc-le-suc}
+use native.Mathlib.Nat.{zero-add, sub-zero, pow-suc, mul-assoc, mul-comm, mod-eq-of-lt, not-suc-le-zero, le-of-suc-le-suc}
 use native.Mathlib.Numerals.{add-one}
 use lib.Count as Count
-use lib.Dec.{eqb, lit<}
+use lib.Dec.{eqb}
 use lib.ListN.{length, getD, take, drop, replicate, length-map, drop-of-length-le}
 use lib.Pow.{shl-lt}
 use lib.Seq.{drop-cons}
 use Rattle.bits.specs.Bit.{toN, numberFrom, number}
-use Rattle.bits.proofs.BitLaws.{toN-lt}
+use Rattle.bits.proofs.BitLaws.{toN-lt, number-lt}
 use Rattle.channel.specs.Coding.{Word, bitsAt, ones, odd}
 use Rattle.channel.specs.Control.{fromTop}
 
@@ -78,18 +78,11 @@ zeros-fill (b ∷ bs) (suc n) m a l h =
     let e : suc n - suc (length bs) ≡ n - length bs = omega arith in
     rw e (zeros-fill bs n m (2 * a + toN b) (le-of-suc-le-suc l) (omega arith))
 
--- bits behind a number of m bits make a number of so many bits more
-number-grows : (bs : List Bool) (a m : ℕ) → a < 2 ^ m → numberFrom a bs < 2 ^ (m + length bs)
-number-grows [] a m h = rw (add-zero m) h
-number-grows (b ∷ bs) a m h =
-    let e : m + suc (length bs) ≡ m + 1 + length bs = omega arith in
-    rw e (number-grows bs (2 * a + toN b) (m + 1) (field-grows a m b (2 * a + toN b) h refl))
-
 -- a field of at most eight bits above the zeros that are missing is a byte
 padded-lt : (bs : List Bool) → length bs ≤ 8 → number bs * 2 ^ (8 - length bs) < 256
 padded-lt bs h =
     let e : length bs + (8 - length bs) ≡ 8 = omega arith in
-    rw e at (shl-lt (length bs) (8 - length bs) (rw zero-add at (number-grows bs 0 0 (lit< tt))))
+    rw e at (shl-lt (length bs) (8 - length bs) (number-lt bs))
 
 -- a field of the bits at some places, shifted up by what is missing to eight, is the byte that has them from the top
 pub top-of : (g : Word) (ps : List ℕ) (field r : ℕ) → length ps ≤ 8 → field ≡ number (bitsAt g ps) → r ≡ field * 2 ^ (8 - length ps) % 256 → r ≡ fromTop (bitsAt g ps)
