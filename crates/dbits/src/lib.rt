@@ -5,7 +5,7 @@ use crate::places::D_PLACES;
 use channel::Kind;
 ghost use mathlib.Core.Path.{_≡_};
 ghost use mathlib.Core.List.{List, map, _++_};
-ghost use Prim.Native.Nat.{ℕ, _+_, _*_, _/_, _%_, _^_, _≤_, _<_};
+ghost use Prim.Native.Nat.{ℕ, _+_, _*_, _-_, _/_, _%_, _^_, _≤_, _<_};
 ghost use lib.ListN.{length, getD, take, drop, replicate};
 ghost use Rattle.bits.specs.Bit.{bitAt, count};
 ghost use Rattle.channel.specs.Kinds.{dCount};
@@ -164,13 +164,21 @@ fn quick_bytes(o: &[u8], plan: &[u32], base: usize, n: usize) -> [u8; 19]
     out
 }
 
+// Where the places of byte j end.
+fn byte_end(part: &[u8], j: usize) -> usize
+    requires { ⌜ j < 19 ⌝ }
+    ensures { λ r. ⌜ r ≡ length (now (part .entry)) - (length (now (part .entry)) - (8 * j + 8)) ⌝ }
+{
+    put::least(part.len(), 8 * j + 8)
+}
+
 // Byte j of the bits at some places, from the top, bit by bit.
 fn byte_at(o: &[u8], part: &[u8], j: usize) -> u8
     requires { ⌜ (length (now o) ≡ 20) × Below 160 (now part) × (j < 19) ⌝ }
     ensures { λ r. ⌜ r ≡ fromTop (drop (8 * j) (bitsAt (bitAt (now (o .entry))) (now (part .entry)))) ⌝ }
 {
     let start = put::least(part.len(), 8 * j);
-    let end = put::least(part.len(), 8 * j + 8);
+    let end = byte_end(part, j);
     word::lent_byte(o, &part[start..end])
 }
 
@@ -255,7 +263,7 @@ fn with_byte(o: [u8; 20], part: &[u8], d: &[u8], i: usize) -> [u8; 20]
     requires { ⌜ Below 160 (now part) × (length (now part) ≤ 151) × (length (now part) ≤ 8 * length (now d)) × (i < (length (now part) + 7) / 8) ⌝ }
     ensures { λ r. ⌜ Rest (now (part .entry)) (now (d .entry)) i o (i + 1) r ⌝ }
 {
-    let end = put::least(part.len(), 8 * i + 8);
+    let end = byte_end(part, i);
     put::at_places(o, &part[8 * i..end], &d[i..])
 }
 
@@ -296,7 +304,7 @@ fn entry_at(part: &[u8], j: usize) -> Entry
     requires { ⌜ Below 160 (now part) × Rising (now part) × (length (now part) ≤ 151) × (8 * j < length (now part)) ⌝ }
     ensures { λ r. ⌜ EntryBy (take 8 (drop (8 * j) (now (part .entry)))) (r .m) (r .f) (r .h) ⌝ }
 {
-    let end = put::least(part.len(), 8 * j + 8);
+    let end = byte_end(part, j);
     entry_of(&part[8 * j..end])
 }
 

@@ -20,14 +20,8 @@ mul-least c = search needs
 least-requires : tie.Need-least-requires
 least-requires c κs = search needs
 
-mul-least-2 : tie.Need-mul-least-2
-mul-least-2 c = search needs
-
-add-least : tie.Need-add-least
-add-least c = search needs
-
-least-requires-2 : tie.Need-least-requires-2
-least-requires-2 c κs = search needs
+byte-end-requires : tie.Need-byte-end-requires
+byte-end-requires c κs = search needs
 
 sub-lent-byte : tie.Need-sub-lent-byte
 sub-lent-byte c = search needs
@@ -42,15 +36,15 @@ lent-byte-requires : tie.Need-lent-byte-requires
 lent-byte-requires c κs =
     let ps = c .before .before .before .before .before .args .part .now in
     let s = c .before .before .least .result in
-    let e = c .before .least2 .result in
+    let e = c .before .byte-end .result in
     let r = c .before .before .before .before .before .pre in
-    (r .0, part-below ps s (e - s) (r .1), omega (arith, length-take (e - s) (drop s ps), c .before .before .least .ensures, c .before .least2 .ensures))
+    (r .0, part-below ps s (e - s) (r .1), omega (arith, length-take (e - s) (drop s ps), c .before .before .least .ensures, c .before .byte-end .ensures))
 
 returns : tie.Need-returns
 returns c =
     let a = c .before .before .before .before .before .before .args in
     let ps = a .part .now in
-    c .lent-byte .ensures ∙ ap (λ (qs : List ℕ). fromTop (bitsAt (bitAt (a .o .now)) qs)) (eight-part ps (a .j) (c .before .before .before .least .result) (c .before .before .least2 .result) (c .before .before .before .least .ensures) (c .before .before .least2 .ensures)) ∙ byte-of (bitAt (a .o .now)) ps (a .j) 8 refl
+    c .lent-byte .ensures ∙ ap (λ (qs : List ℕ). fromTop (bitsAt (bitAt (a .o .now)) qs)) (eight-part ps (a .j) (c .before .before .before .least .result) (c .before .before .byte-end .result) (c .before .before .before .least .ensures) (c .before .before .byte-end .ensures)) ∙ byte-of (bitAt (a .o .now)) ps (a .j) 8 refl
 
 pub byte-at-spec : {M : Type 1} → statement M
 byte-at-spec =
@@ -58,9 +52,7 @@ byte-at-spec =
     (tie.spec
     mul-least
     least-requires
-    mul-least-2
-    add-least
-    least-requires-2
+    byte-end-requires
     sub-lent-byte
     part-lent-byte-start
     part-lent-byte-end

@@ -10,14 +10,8 @@ use borrow.Author.Needs.{needs}
 use Rattle.dbits.proofs.entry_at.Statement.{statement}
 use Rattle.dbits.proofs.entry_at.Tie as tie
 
-mul-least : tie.Need-mul-least
-mul-least c = search needs
-
-add-least : tie.Need-add-least
-add-least c = search needs
-
-least-requires : tie.Need-least-requires
-least-requires c κs = search needs
+byte-end-requires : tie.Need-byte-end-requires
+byte-end-requires c κs = search needs
 
 mul-entry-of : tie.Need-mul-entry-of
 mul-entry-of c = search needs
@@ -35,22 +29,20 @@ entry-of-requires : tie.Need-entry-of-requires
 entry-of-requires c κs =
     let ps = c .before .before .before .args .part .now in
     let j = c .before .before .before .args .j in
-    let e = c .before .least .result in
+    let e = c .before .byte-end .result in
     let r = c .before .before .before .pre in
     let l = length-take (e - 8 * j) (drop (8 * j) ps) in
     let d = length-drop (8 * j) ps in
-    (part-below ps (8 * j) (e - 8 * j) (r .0), part-rises ps (8 * j) (e - 8 * j) (r .1), omega (arith, c .before .least .ensures), omega (arith, c .before .least .ensures))
+    (part-below ps (8 * j) (e - 8 * j) (r .0), part-rises ps (8 * j) (e - 8 * j) (r .1), omega (arith, c .before .byte-end .ensures), omega (arith, c .before .byte-end .ensures))
 
 returns : tie.Need-returns
-returns c = rw (eight-part (c .before .before .before .before .args .part .now) (c .before .before .before .before .args .j) (8 * c .before .before .before .before .args .j) (c .before .before .least .result) (omega arith) (c .before .before .least .ensures)) at (c .entry-of .ensures)
+returns c = rw (eight-part (c .before .before .before .before .args .part .now) (c .before .before .before .before .args .j) (8 * c .before .before .before .before .args .j) (c .before .before .byte-end .result) (omega arith) (c .before .before .byte-end .ensures)) at (c .entry-of .ensures)
 
 pub entry-at-spec : {M : Type 1} → statement M
 entry-at-spec =
     tie.close
     (tie.spec
-    mul-least
-    add-least
-    least-requires
+    byte-end-requires
     mul-entry-of
     sub-entry-of
     part-entry-of-start

@@ -14,14 +14,8 @@ use Rattle.dbits.proofs.BackLaws.{byte-turn, byte-front}
 use Rattle.dbits.proofs.with_byte.Statement.{statement}
 use Rattle.dbits.proofs.with_byte.Tie as tie
 
-mul-least : tie.Need-mul-least
-mul-least c = search needs
-
-add-least : tie.Need-add-least
-add-least c = search needs
-
-least-requires : tie.Need-least-requires
-least-requires c κs = search needs
+byte-end-requires : tie.Need-byte-end-requires
+byte-end-requires c κs = search needs
 
 mul-at-places : tie.Need-mul-at-places
 mul-at-places c = search needs
@@ -47,7 +41,7 @@ part-at-places-end-2 c = search needs
 at-places-requires : tie.Need-at-places-requires
 at-places-requires c κs =
     let a = c .before .before .before .before .before .args in
-    let e = c .before .before .least in
+    let e = c .before .before .byte-end in
     let eight = eight-part (a .part .now) (a .i) (8 * a .i) (e .result) (omega arith) (e .ensures) in
     let all : take (length (a .d .now) - a .i) (drop (a .i) (a .d .now)) ≡ drop (a .i) (a .d .now) = take-all (length (a .d .now) - a .i) (drop (a .i) (a .d .now)) (omega (arith, length-drop (a .i) (a .d .now))) in
     (part-below (a .part .now) (8 * a .i) (e .result - 8 * a .i) (c .before .before .before .before .before .pre .0), rw (eight, all) (omega (arith, length-take 8 (drop (8 * a .i) (a .part .now)), length-drop (8 * a .i) (a .part .now), length-drop (a .i) (a .d .now))))
@@ -55,7 +49,7 @@ at-places-requires c κs =
 returns : tie.Need-returns
 returns c =
     let a = c .before .before .before .before .before .before .args in
-    let e = c .before .before .before .least in
+    let e = c .before .before .before .byte-end in
     let eight = eight-part (a .part .now) (a .i) (8 * a .i) (e .result) (omega arith) (e .ensures) in
     let all : take (length (a .d .now) - a .i) (drop (a .i) (a .d .now)) ≡ drop (a .i) (a .d .now) = take-all (length (a .d .now) - a .i) (drop (a .i) (a .d .now)) (omega (arith, length-drop (a .i) (a .d .now))) in
     byte-turn (a .o) (c .at-places .result) (a .part .now) (bitAt (a .d .now)) (bitAt (drop (a .i) (a .d .now))) (a .i) (λ k m. rw (zero-add k) (byte-front (a .d .now) (a .i) k)) (rw (eight, all) at (c .at-places .ensures))
@@ -64,9 +58,7 @@ pub with-byte-spec : {M : Type 1} → statement M
 with-byte-spec =
     tie.close
     (tie.spec
-    mul-least
-    add-least
-    least-requires
+    byte-end-requires
     mul-at-places
     sub-at-places
     part-at-places-start
