@@ -1,15 +1,15 @@
 -- Eight zeros and a one in two bytes: they begin at one place of the first byte at most, which the leading zeros of the second tell.
 -- Assumes nothing.
-use mathlib.Core.Path.{_≡_, refl, sym, _∙_, ap, subst}
+use mathlib.Core.Path.{_≡_, sym, _∙_, ap, subst}
 use mathlib.Core.Logic.{_⊎_, inl, inr, by-cases}
-use mathlib.Core.Bool.{Bool, true, false}
+use mathlib.Core.Bool.{Bool, true}
 use mathlib.Core.List.{List}
 use Prim.Native.Nat.{ℕ, zero, suc, _+_, _*_, _-_, _/_, _%_, _^_, _<_, _≤_}
 use native.Mathlib.Omega.{arith}
 use borrow.Author.Tests.{eqb-true}
 use lib.Dec.{eqb}
 use native.Mathlib.Nat.{zero-div, zero-mod, zero-mul, div-eq-of-lt, div-eq-of-lt-le, pow-suc, mod-lt, add-zero, mul-mod-left}
-use native.Mathlib.Decide.{decLt, ℕ-discrete}
+use native.Mathlib.Decide.{decLt}
 use lib.Count.{leadingZeros, leading-unique, leading-length}
 use lib.ListN.{getD}
 use lib.Pow.{pow-pos, pow-lt, pow-mono, split, shr-shr, shl-shr, field, mod-pow-add, mod-mod-pow}

@@ -15,7 +15,7 @@ use Rattle.bits.specs.Bit.{toN, number}
 use Rattle.channel.specs.Poly.{_⊕_, Rem}
 use Rattle.channel.specs.Coding.{Word, bitsAt, ones}
 use Rattle.channel.specs.Crc.{push}
-use Rattle.word.specs.Words.{held, Holds}
+use Rattle.word.specs.Words.{held}
 use Rattle.word.proofs.FieldLaws.{shl-one, held-field}
 use Rattle.crc.specs.Taps.{power, taps, ParityOf}
 use Rattle.crc.proofs.TapLaws.{power-next}
@@ -95,78 +95,47 @@ held-bit g n p j i k h e f = rw (← e) (rw (← f) (held-field g n p j 1 (n - s
     one : (b : Bool) → number (b ∷ []) ≡ toN b
     one b = omega arith
 
+-- a digit that is one or not, in the place of the bit: the parity turns, or not
+tapped : (t : Bool) (w a k x d : ℕ) → x ≡ toN t → k < 64 → w / 2 ^ k % 2 ≡ d → Count.ones (bitAnd w (bitXor a (x * 2 ^ k % 2 ^ 64))) % 2 ≡ (Count.ones (bitAnd w a) + cond t d 0) % 2
+tapped true w a k x d e l h = rw (e, shl-one k l, ← h) (turned k w a)
+tapped false w a k x d e l h = rw (e, zero-mul (2 ^ k), xor-zero-r a) (omega arith)
+
+-- so do the ones at the places
+listed : (g : Word) (t : Bool) (p : ℕ) (ps : List ℕ) → ones (bitsAt g (cond t (p ∷ ps) ps)) ≡ cond t (toN (g p)) 0 + ones (bitsAt g ps)
+listed g true p ps = refl
+listed g false p ps = omega arith
+
 -- one summand changes by a bit, and so does the sum
-sum-turned : (u o d n s : ℕ) → u % 2 ≡ (o + d) % 2 → (o + n) % 2 ≡ s % 2 → (u + n) % 2 ≡ (d + s) % 2
-sum-turned u o d n s e f =
-    let r : o + d + n ≡ o + n + d = omega arith in
-    let t : s + d ≡ d + s = omega arith in
-    behind u (o + d) n e ∙ ap (λ (m : ℕ). m % 2) r ∙ behind (o + n) s d f ∙ ap (λ (m : ℕ). m % 2) t
+sum-turned : (n u o d m s v r : ℕ) → u % 2 ≡ (o + d) % 2 → m % 2 ≡ s % 2 → r ≡ d + s → m ≡ o + n → v ≡ u + n → v % 2 ≡ r % 2
+sum-turned n u o d m s v r e f rest old new =
+    let z : o + d + n ≡ m + d = omega arith in
+    rw (new, rest) (behind u (o + d) n e ∙ ap (λ (k : ℕ). k % 2) z ∙ behind m s d f ∙ ap (λ (k : ℕ). k % 2) (omega arith))
   where
     behind : (x y m : ℕ) → x % 2 ≡ y % 2 → (x + m) % 2 ≡ (y + m) % 2
     behind x y m h = omega arith
 
-first-of : (a b c : ℕ) → a + b + c ≡ a + (b + c)
-first-of a b c = omega arith
-
-second-of : (a b c : ℕ) → a + b + c ≡ b + (a + c)
-second-of a b c = omega arith
-
-third-of : (a b c : ℕ) → a + b + c ≡ c + (a + b)
-third-of a b c = omega arith
-
-module _ (ps : List ℕ) (a b c p : ℕ) (h : ParityOf ps a b c) where
-  turn-first : p < 64 → ParityOf (p ∷ ps) (bitXor a (2 ^ (63 - p))) b c
-  turn-first l = record {
-    odd-alike = λ g x y z s.
-        let e : x / 2 ^ (63 - p) % 2 ≡ toN (g p) = rw (s .first) (held-bit g 64 0 p p (63 - p) l (zero-add p) (omega arith)) in
-        let i = h .odd-alike g x y z s in
-        let q : (Count.ones (bitAnd x (bitXor a (2 ^ (63 - p)))) + (Count.ones (bitAnd y b) + Count.ones (bitAnd z c))) % 2 ≡ (toN (g p) + ones (bitsAt g ps)) % 2 =
-        sum-turned _ (Count.ones (bitAnd x a)) (toN (g p)) (Count.ones (bitAnd y b) + Count.ones (bitAnd z c)) (ones (bitsAt g ps)) (rw (← e) (turned (63 - p) x a)) (ap (λ (n : ℕ). n % 2) (sym (first-of _ _ _)) ∙ i) in
-        ap (λ (n : ℕ). n % 2) (first-of _ _ _) ∙ q;
-  }
-
-  turn-second : 64 ≤ p → p < 128 → ParityOf (p ∷ ps) a (bitXor b (2 ^ (127 - p))) c
-  turn-second m l = record {
-    odd-alike = λ g x y z s.
-        let e : y / 2 ^ (127 - p) % 2 ≡ toN (g p) = rw (s .second) (held-bit g 64 64 (p - 64) p (127 - p) (omega arith) (omega arith) (omega arith)) in
-        let i = h .odd-alike g x y z s in
-        let q : (Count.ones (bitAnd y (bitXor b (2 ^ (127 - p)))) + (Count.ones (bitAnd x a) + Count.ones (bitAnd z c))) % 2 ≡ (toN (g p) + ones (bitsAt g ps)) % 2 =
-        sum-turned _ (Count.ones (bitAnd y b)) (toN (g p)) (Count.ones (bitAnd x a) + Count.ones (bitAnd z c)) (ones (bitsAt g ps)) (rw (← e) (turned (127 - p) y b)) (ap (λ (n : ℕ). n % 2) (sym (second-of _ _ _)) ∙ i) in
-        ap (λ (n : ℕ). n % 2) (second-of _ _ _) ∙ q;
-  }
-
-  turn-third : 128 ≤ p → p < 160 → ParityOf (p ∷ ps) a b (bitXor c (2 ^ (159 - p)))
-  turn-third m l = record {
-    odd-alike = λ g x y z s.
-        let e : z / 2 ^ (159 - p) % 2 ≡ toN (g p) = rw (s .third) (held-bit g 32 128 (p - 128) p (159 - p) (omega arith) (omega arith) (omega arith)) in
-        let i = h .odd-alike g x y z s in
-        let q : (Count.ones (bitAnd z (bitXor c (2 ^ (159 - p)))) + (Count.ones (bitAnd x a) + Count.ones (bitAnd y b))) % 2 ≡ (toN (g p) + ones (bitsAt g ps)) % 2 =
-        sum-turned _ (Count.ones (bitAnd z c)) (toN (g p)) (Count.ones (bitAnd x a) + Count.ones (bitAnd y b)) (ones (bitsAt g ps)) (rw (← e) (turned (159 - p) z c)) (ap (λ (n : ℕ). n % 2) (sym (third-of _ _ _)) ∙ i) in
-        ap (λ (n : ℕ). n % 2) (third-of _ _ _) ∙ q;
-  }
-
--- as the code has it: a digit that is one or not, in the place of the bit
+-- as the code has it, in the first, the second or the third mask
 module _ (ps : List ℕ) (t : Bool) (a b c p x : ℕ) (e : x ≡ toN t) (h : ParityOf ps a b c) where
   pub tap-first : p < 64 → ParityOf (cond t (p ∷ ps) ps) (bitXor a (x * 2 ^ (63 - p) % 2 ^ 64)) b c
-  tap-first l = go t e
-    where
-      go : (t : Bool) → x ≡ toN t → ParityOf (cond t (p ∷ ps) ps) (bitXor a (x * 2 ^ (63 - p) % 2 ^ 64)) b c
-      go true e = rw (e, shl-one (63 - p) (omega arith)) (turn-first ps a b c p h l)
-      go false e = rw (e, zero-mul (2 ^ (63 - p)), xor-zero-r a) h
+  tap-first l = record {
+    odd-alike = λ g u v w s.
+        let bit : u / 2 ^ (63 - p) % 2 ≡ toN (g p) = rw (s .first) (held-bit g 64 0 p p (63 - p) l (zero-add p) (omega arith)) in
+        sum-turned (Count.ones (bitAnd v b) + Count.ones (bitAnd w c)) _ _ _ _ _ _ _ (tapped t u a (63 - p) x (toN (g p)) e (omega arith) bit) (h .odd-alike g u v w s) (listed g t p ps) (omega arith) (omega arith);
+  }
 
   pub tap-second : 64 ≤ p → p < 128 → ParityOf (cond t (p ∷ ps) ps) a (bitXor b (x * 2 ^ (127 - p) % 2 ^ 64)) c
-  tap-second m l = go t e
-    where
-      go : (t : Bool) → x ≡ toN t → ParityOf (cond t (p ∷ ps) ps) a (bitXor b (x * 2 ^ (127 - p) % 2 ^ 64)) c
-      go true e = rw (e, shl-one (127 - p) (omega arith)) (turn-second ps a b c p h m l)
-      go false e = rw (e, zero-mul (2 ^ (127 - p)), xor-zero-r b) h
+  tap-second m l = record {
+    odd-alike = λ g u v w s.
+        let bit : v / 2 ^ (127 - p) % 2 ≡ toN (g p) = rw (s .second) (held-bit g 64 64 (p - 64) p (127 - p) (omega arith) (omega arith) (omega arith)) in
+        sum-turned (Count.ones (bitAnd u a) + Count.ones (bitAnd w c)) _ _ _ _ _ _ _ (tapped t v b (127 - p) x (toN (g p)) e (omega arith) bit) (h .odd-alike g u v w s) (listed g t p ps) (omega arith) (omega arith);
+  }
 
   pub tap-third : 128 ≤ p → p < 160 → ParityOf (cond t (p ∷ ps) ps) a b (bitXor c (x * 2 ^ (159 - p) % 2 ^ 64))
-  tap-third m l = go t e
-    where
-      go : (t : Bool) → x ≡ toN t → ParityOf (cond t (p ∷ ps) ps) a b (bitXor c (x * 2 ^ (159 - p) % 2 ^ 64))
-      go true e = rw (e, shl-one (159 - p) (omega arith)) (turn-third ps a b c p h m l)
-      go false e = rw (e, zero-mul (2 ^ (159 - p)), xor-zero-r c) h
+  tap-third m l = record {
+    odd-alike = λ g u v w s.
+        let bit : w / 2 ^ (159 - p) % 2 ≡ toN (g p) = rw (s .third) (held-bit g 32 128 (p - 128) p (159 - p) (omega arith) (omega arith) (omega arith)) in
+        sum-turned (Count.ones (bitAnd u a) + Count.ones (bitAnd v b)) _ _ _ _ _ _ _ (tapped t w c (159 - p) x (toN (g p)) e (omega arith) bit) (h .odd-alike g u v w s) (listed g t p ps) (omega arith) (omega arith);
+  }
 
 -- no place, no parity
 pub ones-none : Count.ones 0 ≡ 0

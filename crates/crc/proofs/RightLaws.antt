@@ -7,7 +7,7 @@ use Prim.Native.Nat.{ℕ, zero, suc, _+_, _*_, _/_, _%_, _<_}
 use native.Mathlib.Omega.{arith}
 use borrow.Author.Tests.{not-true, not-false}
 use lib.Arith.{bin-ind}
-use lib.Bits.{bitAnd, bitXor, xor-step, differ}
+use lib.Bits.{bitXor, xor-step, differ}
 use lib.Count as Count
 use lib.Dec.{eqb}
 use lib.ListN.{getD}

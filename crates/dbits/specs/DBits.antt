@@ -1,7 +1,7 @@
 -- The table of D bits and the D bits as bytes (document 01, "Frames": "One constant table holds the place of each of the 1,022 D bits of the
 -- eight kinds"; "Records and calls": "D bits from the top bit down, zero padded"). Assumes nothing.
 use mathlib.Core.List.{List, map}
-use Prim.Native.Nat.{ℕ, suc, _+_, _*_, _<_}
+use Prim.Native.Nat.{ℕ, suc, _*_, _<_}
 use lib.ListN.{length, getD, drop}
 use Rattle.reading.specs.Reading.{joined}
 use Rattle.bits.specs.Bit.{count}

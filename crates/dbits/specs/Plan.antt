@@ -2,14 +2,14 @@
 -- Assumes nothing.
 use mathlib.Core.Path.{_≡_}
 use mathlib.Core.List.{List, [], _∷_}
-use Prim.Native.Nat.{ℕ, suc, _+_, _*_, _-_, _/_, _%_, _^_, _≤_, _<_}
+use Prim.Native.Nat.{ℕ, _+_, _*_, _-_, _/_, _%_, _^_, _≤_, _<_}
 use mathlib.Core.Bool.{cond}
 use lib.Bits.{bitAnd}
 use lib.Dec.{eqb}
 use lib.ListN.{length, getD, set, take, drop}
 use Rattle.bits.specs.Bit.{bitAt, number, count}
 use Rattle.channel.specs.declared.Kind.{Kind}
-use Rattle.channel.specs.Kinds.{kindNo, dCount}
+use Rattle.channel.specs.Kinds.{kindNo}
 use Rattle.channel.specs.Places.{dPlaces}
 use Rattle.channel.specs.Coding.{bitsAt}
 use Rattle.channel.specs.Control.{fromTop}

@@ -6,8 +6,6 @@ use native.Mathlib.Omega.{arith}
 use borrow.Author.Needs.{needs}
 use Rattle.bits.proofs.stands_from.Statement.{statement}
 use Rattle.bits.proofs.stands_from.Tie as tie
-use Rattle.bits.proofs.stands_from.Reads as reads
-use Rattle.bits.proofs.stands_from.Lts as lts
 
 returns : tie.Need-returns
 returns c = search needs

@@ -1,6 +1,5 @@
 -- `bits::sync_from` meets its contract: no place of the bytes passed has eight zeros and a one, the one that is answered has.
 -- Assumes nothing.
-use mathlib.Core.Path.{_≡_, sym, _∙_}
 use mathlib.Core.Logic.{inl, inr}
 use Prim.Native.Nat.{ℕ, _+_, _*_, _-_, _<_, _≤_}
 use native.Mathlib.Omega.{arith}
@@ -10,10 +9,6 @@ use borrow.Author.Tests.{eq-eqb}
 use Rattle.bits.proofs.SyncLaws.{bytes-synced, odd-none, nil-none, Before, byte-passed, byte-stops}
 use Rattle.bits.proofs.sync_from.Statement.{statement}
 use Rattle.bits.proofs.sync_from.Tie as tie
-use Rattle.bits.proofs.sync_from.Reads as reads
-use Rattle.bits.proofs.sync_from.Lts as lts
-use Rattle.bits.proofs.stands_from.Reads as stands-from-reads
-use Rattle.bits.proofs.sync_in.Reads as sync-in-reads
 
 abbrev Inv-loop : tie.InvT-loop
 Inv-loop s q last i₀ i = (8 * i ≤ last + 8) × Before s q (8 * i)

@@ -12,9 +12,6 @@ use Rattle.crc.proofs.ParityLaws.{parity-none, grown, next-two, next-on
 use borrow.Author.Needs.{needs}
 use Rattle.crc.proofs.masks_of.Statement.{statement}
 use Rattle.crc.proofs.masks_of.Tie as tie
-use Rattle.crc.proofs.masks_of.Reads as reads
-use Rattle.crc.proofs.masks_of.Lts as lts
-use Rattle.crc.proofs.with_tap.Reads as with-tap-reads
 
 abbrev Inv-loop : tie.InvT-loop
 Inv-loop places two₀ one₀ nil₀ x2₀ x1₀ x0₀ j₀ two one nil x2 x1 x0 j =

@@ -5,8 +5,6 @@ use Rattle.crc.proofs.ParityLaws.{tap-first, tap-second, tap-third}
 use borrow.Author.Needs.{needs}
 use Rattle.crc.proofs.with_tap.Statement.{statement}
 use Rattle.crc.proofs.with_tap.Tie as tie
-use Rattle.crc.proofs.with_tap.Reads as reads
-use Rattle.crc.proofs.with_tap.Lts as lts
 
 sub-t5 : tie.Need-sub-t5
 sub-t5 c = search needs
