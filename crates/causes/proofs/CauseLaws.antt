@@ -31,8 +31,8 @@ use Rattle.channel.proofs.BoolLaws.{ands, and-r, and-both, all-at, never}
 use Rattle.channel.proofs.DLaws.{elem-count}
 use Rattle.channel.proofs.FrameLaws.{uncut}
 use Rattle.channel.proofs.CutLaws.{control-cut, extended-cut}
-use Rattle.frame.specs.declared.coding.Found.{Found}
-use Rattle.frame.specs.declared.coding.Found.the-variants.{Is, Nothing}
+use Rattle.channel.specs.declared.Found.{Found}
+use Rattle.channel.specs.declared.Found.the-variants.{Is, Nothing}
 use Rattle.dbits.specs.DBits.{dBytes}
 use Rattle.dbits.proofs.DBitLaws.{d-length, fromTop-bit, bytes-bit}
 use Rattle.record.specs.Record.{wide, numberAt, dLength, recordOf}
@@ -41,8 +41,8 @@ use Rattle.record.proofs.RecordLaws.{d-length-le, bytes-cut}
 use Rattle.record.proofs.BuiltLaws.{body-framed, ones-last, extended-top}
 use Rattle.record.proofs.OneLaws.{cut-cut, d-long}
 use Rattle.judge.specs.Sound.{SoundAs, Unsound}
-use Rattle.judge.specs.Held.{kindBy}
-use Rattle.judge.proofs.HeldLaws.{kind-none, is-not, front-kind, front-long, front-tail, front-control, front-extended, front-d}
+use Rattle.judge.specs.Judged.{kindBy}
+use Rattle.judge.proofs.SoundLaws.{kind-none, is-not, front-kind, front-long, front-tail, front-control, front-extended, front-d}
 use Rattle.causes.specs.Causes.{setBehind, hrControl, controlCoded, extendedCoded, caseOf, faulty}
 
 -- a byte of bits from the top is the octet of these bits

@@ -15,11 +15,11 @@ use Rattle.channel.specs.Kinds.{dCount, leastTail}
 use Rattle.channel.specs.Places.{upto, elem}
 use Rattle.channel.specs.Coding.{bitsAt, all, c4Coded, speechXc}
 use Rattle.channel.specs.Control.{controlPlaces}
-use Rattle.frame.specs.declared.coding.Found.{Found}
-use Rattle.frame.specs.declared.coding.Found.the-variants.{Is, Nothing}
+use Rattle.channel.specs.declared.Found.{Found}
+use Rattle.channel.specs.declared.Found.the-variants.{Is, Nothing}
 use Rattle.record.specs.Record.{numberAt, dLength}
 use Rattle.record.specs.Built.{extendedPlaces}
-use Rattle.judge.specs.Held.{kindBy}
+use Rattle.judge.specs.Judged.{kindBy}
 
 -- bits a to b as a number
 abbrev pub field : List ℕ → ℕ → ℕ → ℕ

@@ -26,3 +26,9 @@ pub enum Kind {
     Amr670,
     Amr740,
 }
+
+// A kind, or none.
+pub enum Found {
+    Is(Kind),
+    Nothing,
+}

@@ -22,11 +22,11 @@ use Rattle.channel.proofs.BoolLaws.{all-at, and-both, and-false, never}
 use Rattle.channel.proofs.DLaws.{elem-count}
 use Rattle.channel.proofs.FrameLaws.{one-pattern, one-body}
 use Rattle.word.specs.Below.{Below}
-use Rattle.frame.specs.declared.coding.Found.{Found}
-use Rattle.frame.specs.declared.coding.Found.the-variants.{Is, Nothing}
+use Rattle.channel.specs.declared.Found.{Found}
+use Rattle.channel.specs.declared.Found.the-variants.{Is, Nothing}
 use Rattle.frame.specs.declared.coding.Sync.{Sync}
 use Rattle.frame.specs.declared.coding.Sync.the-variants.{In, Nowhere}
-use Rattle.frame.specs.Found.{Held, Coded, KindOf}
+use Rattle.frame.specs.Found.{SyncOf, Coded, KindOf}
 
 -- a list whose entries a test finds below m
 abbrev allLt : ℕ → List ℕ → Bool
@@ -248,8 +248,8 @@ one-elem v w = go (eqb v w)
     go false = refl
 
 -- the pattern that was found, and which it is
-pub held-in : (g : Word) (s : Sync) (t u : Pattern) → Held g s → s ≡ In t → t ≡ u → fixed g u ≡ true
-held-in g s t u h e q = let h′ : Held g (In t) = rw e at h in rw (← q) h′
+pub sync-in : (g : Word) (s : Sync) (t u : Pattern) → SyncOf g s → s ≡ In t → t ≡ u → fixed g u ≡ true
+sync-in g s t u h e q = let h′ : SyncOf g (In t) = rw e at h in rw (← q) h′
 
-pub held-nowhere : (g : Word) (s : Sync) → Held g s → s ≡ Nowhere → (t : Pattern) → fixed g t ≡ false
-held-nowhere g s h e = let h′ : Held g Nowhere = rw e at h in h′
+pub sync-nowhere : (g : Word) (s : Sync) → SyncOf g s → s ≡ Nowhere → (t : Pattern) → fixed g t ≡ false
+sync-nowhere g s h e = let h′ : SyncOf g Nowhere = rw e at h in h′

@@ -1,21 +1,21 @@
 -- What the kind of a frame is, by its fixed bits and coding (document 01, "Frames" and "Coding").
 -- Assumes nothing.
 use mathlib.Core.Path.{_≡_}
-use mathlib.Core.Bool.{Bool, true, false}
+use mathlib.Core.Bool.{true, false}
 use Rattle.channel.specs.declared.Direction.{Direction}
 use Rattle.channel.specs.declared.Pattern.{Pattern}
 use Rattle.channel.specs.declared.Kind.{Kind}
+use Rattle.channel.specs.declared.Found.{Found}
+use Rattle.channel.specs.declared.Found.the-variants.{Is, Nothing}
 use Rattle.channel.specs.Kinds.{patternOf}
 use Rattle.channel.specs.Coding.{Word, fixed, coded, isBody}
-use Rattle.frame.specs.declared.coding.Found.{Found}
-use Rattle.frame.specs.declared.coding.Found.the-variants.{Is, Nothing}
 use Rattle.frame.specs.declared.coding.Sync.{Sync}
 use Rattle.frame.specs.declared.coding.Sync.the-variants.{In, Nowhere}
 
 -- the pattern found is one whose fixed bits hold; where none is found they hold of none
-abbrev pub Held : Word → Sync → Type 0
-Held g (In t) = fixed g t ≡ true
-Held g Nowhere = (t : Pattern) → fixed g t ≡ false
+abbrev pub SyncOf : Word → Sync → Type 0
+SyncOf g (In t) = fixed g t ≡ true
+SyncOf g Nowhere = (t : Pattern) → fixed g t ≡ false
 
 -- the kind found is one of a pattern whose coding holds; where none is found it holds of none of that pattern
 abbrev pub Coded : Direction → Word → Pattern → Found → Type 0

@@ -9,18 +9,13 @@ ghost use Rattle.channel.specs.Coding.{bitsAt, c4Coded, xcCoded, speechXc, fixe
 ghost use Rattle.channel.specs.declared.Pattern.{Pattern as Fixed};
 ghost use Rattle.channel.specs.declared.Pattern.the-variants.{Hr, Low};
 ghost use Rattle.word.specs.Words.{Holds};
-ghost use Rattle.frame.specs.Found.{Held, Coded, KindOf};
+ghost use Rattle.frame.specs.Found.{SyncOf, Coded, KindOf};
 use crate::places;
 use channel::Direction;
+use channel::Found;
 use channel::Kind;
 use channel::Pattern;
 use word::Words;
-
-// A kind, or none.
-pub enum Found {
-    Is(Kind),
-    Nothing,
-}
 
 // A pattern, or none.
 pub enum Sync {
@@ -74,7 +69,7 @@ fn candidate(w: Words) -> Pattern
 
 // The pattern whose fixed bits hold, all of them tested at once.
 fn pattern_of(w: Words) -> Sync
-    ensures { λ r. ⌜ ((o : List ℕ) → Holds (bitAt o) (w .a) (w .b) (w .c) → Held (bitAt o) r) ⌝ }
+    ensures { λ r. ⌜ ((o : List ℕ) → Holds (bitAt o) (w .a) (w .b) (w .c) → SyncOf (bitAt o) r) ⌝ }
 {
     let t = candidate(w);
     if holds(w, t) {

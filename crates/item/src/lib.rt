@@ -1,15 +1,20 @@
-// An item as the code holds it, and the cursor that moves over it.
+// An item as the code has it, and the cursor that moves over it.
 ghost use mathlib.Core.Path.{_≡_};
 ghost use Prim.Native.Nat.{_≤_};
 ghost use Rattle.reading.specs.Reading.{over};
 ghost use Rattle.channel.specs.Frames.{rules};
 ghost use Rattle.item.specs.Item.{itemOf, cursorOf};
-use frame::Found;
+use channel::Kind;
 
-// An item: a frame of the kind found, or a gap where nothing is found. The octets are the frame's first bits (zeros for a gap), the length is that of
-// the tail or of the gap.
+// What an item is: a frame of a kind, or a gap.
+pub enum ItemKind {
+    Frame(Kind),
+    Gap,
+}
+
+// An item. The octets are the frame's first bits (zeros for a gap), the length is that of the tail or of the gap, the verdict of a gap is 0.
 pub struct Item {
-    pub found: Found,
+    pub kind: ItemKind,
     pub octets: [u8; 20],
     pub start: usize,
     pub length: usize,
@@ -30,15 +35,15 @@ impl Cursor {
     {
         let start = i.start;
         let length = i.length;
-        let found = i.found;
+        let kind = i.kind;
         let octets = i.octets;
-        match found {
-            Found::Is(k) => {
+        match kind {
+            ItemKind::Frame(k) => {
                 self.position = start + kinds::body(k) + length;
                 self.context = frame::after(octets, k, self.context);
                 self
             }
-            Found::Nothing => {
+            ItemKind::Gap => {
                 self.position = start + length;
                 self.context = 0;
                 self

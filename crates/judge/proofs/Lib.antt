@@ -1,4 +1,4 @@
 -- The laws of this crate, for the crates above it.
 -- Assumes nothing.
-pub mod HeldLaws
+pub mod SoundLaws
 pub mod NumberLaws

@@ -11,50 +11,45 @@ use Rattle.channel.specs.Kinds.{bodyOf}
 use Rattle.channel.specs.Coding.{Word, wordAt}
 use Rattle.channel.specs.Verdict.{verdictOf, startsBy, follows, allowed}
 use Rattle.channel.proofs.CutLaws.{verdict-cut, allowed-by}
-use Rattle.frame.specs.declared.coding.Found.the-variants.{Is}
-use Rattle.item.specs.declared.Item.{Item}
 use Rattle.item.specs.declared.Cursor.{Cursor}
-use Rattle.item.specs.Item.{frameOf, itemOf, cursorOf}
+use Rattle.item.specs.Item.{cursorOf}
+use Rattle.judge.specs.declared.Record.{Record}
 use Rattle.judge.specs.Sound.{soundNumber}
-use Rattle.judge.specs.Held.{numberOf}
+use Rattle.judge.specs.Judged.{frameBy}
 
-module _ (i : Item) (c : Cursor) (bits : ℕ) where
+module _ (r : Record) (k : Kind) (c : Cursor) (bits : ℕ) where
   -- the number that is due
   abbrev the-number : ℕ
-  the-number = numberOf bits (cursorOf c) (itemOf i)
+  the-number = soundNumber bits (cursorOf c) (frameBy r k)
 
-  module _ (k : Kind) (e : i .found ≡ Is k) where
-    abbrev g : Word
-    g = bitAt (i .octets)
+  abbrev g : Word
+  g = bitAt (r .octets)
 
-    the-frame : the-number ≡ soundNumber bits (cursorOf c) (frameOf k (i .octets) (i .start) (i .length) (i .verdict))
-    the-frame = rw e
+  -- the start isn't the cursor's position
+  pub number-start : (r .start ≡ c .position → ⊥) → 6 ≡ the-number
+  number-start n = sym (rw (ne-eqb (r .start) (c .position) n))
 
-    -- the start isn't the cursor's position
-    pub number-start : (i .start ≡ c .position → ⊥) → 6 ≡ the-number
-    number-start n = sym (the-frame ∙ rw (ne-eqb (i .start) (c .position) n))
+  module _ (same : r .start ≡ c .position) (due : ℕ) (d : due ≡ verdictOf (c .context) g k) where
+    cut-due : verdictOf (c .context) (wordAt g 0 (bodyOf k)) k ≡ due
+    cut-due = verdict-cut (c .context) g k ∙ sym d
 
-    module _ (same : i .start ≡ c .position) (due : ℕ) (d : due ≡ verdictOf (c .context) g k) where
-      cut-due : verdictOf (c .context) (wordAt g 0 (bodyOf k)) k ≡ due
-      cut-due = verdict-cut (c .context) g k ∙ sym d
+    -- the verdict isn't the one due
+    pub number-verdict : (r .verdict ≡ due → ⊥) → 6 ≡ the-number
+    number-verdict n = sym (rw (eq-eqb (r .start) (c .position) same, cut-due, ne-eqb (r .verdict) due n))
 
-      -- the verdict isn't the one due
-      pub number-verdict : (i .verdict ≡ due → ⊥) → 6 ≡ the-number
-      number-verdict n = sym (the-frame ∙ rw (eq-eqb (i .start) (c .position) same, cut-due, ne-eqb (i .verdict) due n))
+    module _ (v : r .verdict ≡ due) (t : Bool) (a : t ≡ cond (eqb (c .context) 0) (startsBy k due) (follows (c .context) k)) where
+      rule : allowed (c .context) (wordAt g 0 (bodyOf k)) k ≡ t
+      rule = sym (a ∙ allowed-by (c .context) g k due d)
 
-      module _ (v : i .verdict ≡ due) (r : Bool) (a : r ≡ cond (eqb (c .context) 0) (startsBy k due) (follows (c .context) k)) where
-        rule : allowed (c .context) (wordAt g 0 (bodyOf k)) k ≡ r
-        rule = sym (a ∙ allowed-by (c .context) g k due d)
+      -- rule 2 has no such frame there
+      pub number-rule : not t ≡ true → 6 ≡ the-number
+      number-rule n = sym (rw (eq-eqb (r .start) (c .position) same, cut-due, eq-eqb (r .verdict) due v, rule, n))
 
-        -- rule 2 has no such frame there
-        pub number-rule : not r ≡ true → 6 ≡ the-number
-        number-rule n = sym (the-frame ∙ rw (eq-eqb (i .start) (c .position) same, cut-due, eq-eqb (i .verdict) due v, rule, n))
+      module _ (n : not t ≡ false) (body : ℕ) (b : body ≡ bodyOf k) where
+        -- the frame would end past the buffer
+        pub number-past : bits < r .start + body + r .tail → 4 ≡ the-number
+        number-past l = sym (rw (eq-eqb (r .start) (c .position) same, cut-due, eq-eqb (r .verdict) due v, rule, n, sym b, lt-ltb bits (r .start + body + r .tail) l))
 
-        module _ (n : not r ≡ false) (body : ℕ) (b : body ≡ bodyOf k) where
-          -- the frame would end past the buffer
-          pub number-past : bits < i .start + body + i .length → 4 ≡ the-number
-          number-past l = sym (the-frame ∙ rw (eq-eqb (i .start) (c .position) same, cut-due, eq-eqb (i .verdict) due v, rule, n, sym b, lt-ltb bits (i .start + body + i .length) l))
-
-          -- the record is taken
-          pub number-taken : i .start + body + i .length ≤ bits → 0 ≡ the-number
-          number-taken l = sym (the-frame ∙ rw (eq-eqb (i .start) (c .position) same, cut-due, eq-eqb (i .verdict) due v, rule, n, sym b, le-ltb bits (i .start + body + i .length) l))
+        -- the record is taken
+        pub number-taken : r .start + body + r .tail ≤ bits → 0 ≡ the-number
+        number-taken l = sym (rw (eq-eqb (r .start) (c .position) same, cut-due, eq-eqb (r .verdict) due v, rule, n, sym b, le-ltb bits (r .start + body + r .tail) l))

@@ -1,4 +1,4 @@
-// A record judged: the frame that it is of, or that it is sound of none, and the number that refuses it at a cursor.
+// A record judged: the frame that it is the sound record of, or that it is unsound; and the number that refuses it at a cursor.
 mod octets;
 
 ghost use mathlib.Core.Path.{_≡_};
@@ -9,15 +9,47 @@ ghost use Rattle.channel.specs.Coding.{isBody};
 ghost use Rattle.channel.specs.declared.Kind.{Kind};
 ghost use Rattle.dbits.specs.Plan.{Made, Plans};
 ghost use Rattle.frame.specs.Kept.{Kept};
-ghost use Rattle.frame.specs.declared.coding.Found.the-variants.{Is};
-ghost use Rattle.item.specs.Item.{frameOf, itemOf, cursorOf};
+ghost use Rattle.item.specs.Item.{itemOf, cursorOf};
 ghost use Rattle.record.specs.Record.{sizeOf, recordOf};
-ghost use Rattle.judge.specs.Held.{kindBy, nothing, HeldAs, PlanFor, SameTo, SoundBy, FoundAs, numberOf};
+ghost use Rattle.judge.specs.Sound.{soundNumber};
+ghost use Rattle.judge.specs.Judged.{kindBy, unsoundRecord, frameBy, frameItem, RecordBy, PlanFor, SameTo, SoundBy, Judged};
 use channel::Direction;
+use channel::Found;
 use channel::Kind;
-use frame::Found;
 use item::Cursor;
 use item::Item;
+use item::ItemKind;
+
+// What a record is: that of a frame of a kind, or unsound.
+pub enum RecordKind {
+    Frame(Kind),
+    Unsound,
+}
+
+// A record: the octets of its frame, start, tail and verdict; all zeros where it is unsound.
+pub struct Record {
+    pub kind: RecordKind,
+    pub octets: [u8; 20],
+    pub start: usize,
+    pub tail: usize,
+    pub verdict: u8,
+}
+
+impl Record {
+    // The item that a record of a frame of a kind is of.
+    pub fn frame(self, k: Kind) -> Item
+        ensures { λ r. ⌜ r ≡ frameItem self k ⌝ }
+    {
+        let octets = self.octets;
+        Item {
+            kind: ItemKind::Frame(k),
+            octets: octets,
+            start: self.start,
+            length: self.tail,
+            verdict: self.verdict,
+        }
+    }
+}
 
 // The kind by its number, or none.
 fn kind_by(number: u8) -> Found
@@ -50,39 +82,39 @@ fn kind_by(number: u8) -> Found
     Found::Nothing
 }
 
-// What an unsound record is held as: nothing is found.
-fn unsound() -> Item
-    ensures { λ r. ⌜ r ≡ nothing ⌝ }
+// An unsound record.
+fn unsound() -> Record
+    ensures { λ r. ⌜ r ≡ unsoundRecord ⌝ }
 {
-    Item {
-        found: Found::Nothing,
+    Record {
+        kind: RecordKind::Unsound,
         octets: [0u8; 20],
         start: 0,
-        length: 0,
+        tail: 0,
         verdict: 0,
     }
 }
 
-// The frame that the bytes of a record make, if they are the sound record of one; nothing where the kind is unknown or the record is cut short.
-// The plan of the kind is made where it is not made yet.
-pub fn held(part: &[u8], table: &[u8], plan: &mut [u32]) -> Item
+// The record in front of some bytes, by what they say: unsound where the kind is unknown or the record is cut short; else of a frame of that kind, which
+// is the frame of the record if it is sound at all. The plan of the kind is made where it is not made yet.
+pub fn record_by(part: &[u8], table: &[u8], plan: &mut [u32]) -> Record
     requires { ⌜ (0 < length (now part)) × Plans (now table) (now plan) ⌝ }
-    ensures { λ r. ⌜ HeldAs (now (part .entry)) r × PlanFor (r .found) (now (table .entry)) (now (plan .exit)) ⌝ }
+    ensures { λ r. ⌜ RecordBy (now (part .entry)) r × PlanFor (r .kind) (now (table .entry)) (now (plan .exit)) ⌝ }
 {
     match kind_by(part[0]) {
         Found::Is(k) => {
-            if part.len() < record::size(Found::Is(k)) {
+            if part.len() < record::size(ItemKind::Frame(k)) {
                 return unsound();
             }
             dbits::ready(plan, table, k);
             let octets = octets::octets_by(part, k, table, plan);
             let start = record::number_at(part, 1) as usize;
             let tail = record::number_at(part, 5) as usize;
-            Item {
-                found: Found::Is(k),
+            Record {
+                kind: RecordKind::Frame(k),
                 octets: octets,
                 start: start,
-                length: tail,
+                tail: tail,
                 verdict: part[11],
             }
         }
@@ -115,76 +147,70 @@ fn begins(a: &[u8], b: &[u8], n: usize) -> bool
 
 // Whether the bytes begin with the record of an item, which is put anew and compared: so no bit is set that must be zero.
 fn is_record(part: &[u8], i: Item, table: &[u8], plan: &[u32]) -> bool
-    requires { ⌜ (sizeOf (itemOf i) ≤ length (now part)) × ((k : Kind) → i .found ≡ Is k → Made (now table) (now plan) k) ⌝ }
+    requires { ⌜ (sizeOf (itemOf i) ≤ length (now part)) × ((k : Kind) → i .kind ≡ ItemKind.Frame k → Made (now table) (now plan) k) ⌝ }
     ensures { λ r. ⌜ SameTo (sizeOf (itemOf i)) (recordOf (itemOf i)) (now (part .entry)) r ⌝ }
 {
     let mut anew = [0u8; 31];
     record::put(&mut anew, i, table, plan);
-    let found = i.found;
-    begins(&anew, part, record::size(found))
+    let kind = i.kind;
+    begins(&anew, part, record::size(kind))
 }
 
-// Whether the record that is held as a frame of a kind is sound: fixed bits and coding, the least tail, and the record of that frame.
-fn sound(part: &[u8], d: Direction, i: Item, k: Kind, table: &[u8], plan: &[u32]) -> bool
-    requires { ⌜ HeldAs (now part) i × (i .found ≡ Is k) × PlanFor (i .found) (now table) (now plan) ⌝ }
-    ensures { λ r. ⌜ SoundBy d (now (part .entry)) (frameOf k (i .octets) (i .start) (i .length) (i .verdict)) r ⌝ }
+// Whether a record of a frame of a kind is sound: fixed bits and coding, the least tail, and the bytes that the record of that frame has.
+fn sound(part: &[u8], d: Direction, r: Record, k: Kind, table: &[u8], plan: &[u32]) -> bool
+    requires { ⌜ RecordBy (now part) r × (r .kind ≡ RecordKind.Frame k) × PlanFor (r .kind) (now table) (now plan) ⌝ }
+    ensures { λ b. ⌜ SoundBy d (now (part .entry)) (frameBy r k) b ⌝ }
 {
-    let octets = i.octets;
-    let tail = i.length;
+    let octets = r.octets;
+    let tail = r.tail;
     if !is_kind(octets, d, k) {
         return false;
     }
     if tail < kinds::least_tail(d, k) {
         return false;
     }
-    is_record(part, i, table, plan)
+    is_record(part, r.frame(k), table, plan)
 }
 
-// The frame that the bytes begin with the sound record of, or nothing where the record is unsound.
-pub fn frame_of(part: &[u8], d: Direction, table: &[u8], plan: &mut [u32]) -> Item
+// The record in front of some bytes, judged: that of the frame that it is the sound record of, or unsound.
+pub fn frame_of(part: &[u8], d: Direction, table: &[u8], plan: &mut [u32]) -> Record
     requires { ⌜ (0 < length (now part)) × Plans (now table) (now plan) ⌝ }
-    ensures { λ r. ⌜ FoundAs d (now (part .entry)) (itemOf r) × (r .start ≤ 4294967295) × (r .length ≤ 4294967295) × Plans (now (table .entry)) (now (plan .exit)) ⌝ }
+    ensures { λ r. ⌜ Judged d (now (part .entry)) r × (r .start ≤ 4294967295) × (r .tail ≤ 4294967295) × Plans (now (table .entry)) (now (plan .exit)) ⌝ }
 {
-    let i = held(part, table, plan);
-    let found = i.found;
-    match found {
-        Found::Is(k) => {
-            if sound(part, d, i, k, table, plan) {
-                return i;
+    let r = record_by(part, table, plan);
+    let kind = r.kind;
+    match kind {
+        RecordKind::Frame(k) => {
+            if sound(part, d, r, k, table, plan) {
+                return r;
             }
             unsound()
         }
-        Found::Nothing => unsound(),
+        RecordKind::Unsound => unsound(),
     }
 }
 
-// The number of the item that a record is found to be, at a cursor and before the end of a buffer of some bits: 5, 6 and 4 in that order, or 0.
-pub fn number(i: Item, c: Cursor, bits: usize, masks: &mut [u64]) -> u64
-    requires { ⌜ (i .start ≤ 4294967295) × (i .length ≤ 4294967295) × Kept (now masks) ⌝ }
-    ensures { λ r. ⌜ (r ≡ numberOf bits (cursorOf c) (itemOf i)) × Kept (now (masks .exit)) ⌝ }
+// The number of the sound record of a frame of a kind, at a cursor and before the end of a buffer of some bits: 6 and 4 in that order, or 0.
+pub fn number(r: Record, k: Kind, c: Cursor, bits: usize, masks: &mut [u64]) -> u64
+    requires { ⌜ (r .start ≤ 4294967295) × (r .tail ≤ 4294967295) × Kept (now masks) ⌝ }
+    ensures { λ n. ⌜ (n ≡ soundNumber bits (cursorOf c) (frameBy r k)) × Kept (now (masks .exit)) ⌝ }
 {
-    let start = i.start;
-    let tail = i.length;
-    let octets = i.octets;
-    let verdict = i.verdict;
-    let found = i.found;
-    match found {
-        Found::Is(k) => {
-            if start != c.position {
-                return 6;
-            }
-            let due = frame::verdict_in(octets, k, c.context, masks);
-            if verdict != due {
-                return 6;
-            }
-            if !kinds::allowed_in(k, c.context, due) {
-                return 6;
-            }
-            if bits < start + kinds::body(k) + tail {
-                return 4;
-            }
-            0
-        }
-        Found::Nothing => 5,
+    let start = r.start;
+    let tail = r.tail;
+    let octets = r.octets;
+    let verdict = r.verdict;
+    if start != c.position {
+        return 6;
     }
+    let due = frame::verdict_in(octets, k, c.context, masks);
+    if verdict != due {
+        return 6;
+    }
+    if !kinds::allowed_in(k, c.context, due) {
+        return 6;
+    }
+    if bits < start + kinds::body(k) + tail {
+        return 4;
+    }
+    0
 }

@@ -69,9 +69,9 @@ fn with_parity(o: [u8; 20], places: &[u8], p: usize) -> [u8; 20]
     ensures { λ r. ⌜ r ≡ withParity (now (places .entry)) p o ⌝ }
 {
     let odd = word::odd_ones(word::packed(o, places));
-    let mut held = o;
-    put::put_bit(&mut held, p, !odd);
-    held
+    let mut made = o;
+    put::put_bit(&mut made, p, !odd);
+    made
 }
 
 // C5, of C1..C4.

@@ -23,10 +23,10 @@ use Rattle.channel.specs.Frames.{Capture, Frame, rules}
 use Rattle.channel.proofs.BoolLaws.{never, and-l, and-r, all-at, zero-at, one-at}
 use Rattle.channel.proofs.DLaws.{elem-count}
 use Rattle.channel.proofs.FrameLaws.{no-740, body-low}
-use Rattle.frame.specs.declared.coding.Found.the-variants.{Is, Nothing}
+use Rattle.item.specs.declared.ItemKind.the-variants as of
 use Rattle.item.specs.declared.Item.{Item}
 use Rattle.item.specs.Item.{frameOf}
-use Rattle.reader.specs.Seen.{Seen, Starting, GapEnd}
+use Rattle.reader.specs.Seen.{SeenBy, Seen, Starting, GapEnd}
 
 -- the fixed ones behind the first nine bits
 abbrev pub sync : List ℕ
@@ -115,10 +115,10 @@ module _ (w : Capture) (q : ℕ) where
   none-fits l f h = omega (arith, start-fits f h)
 
   -- whether a frame starts a run, by the frame that was seen in context 0
-  pub start-seen : (i : Item) (k : Kind) → Seen w 0 q i → i .found ≡ Is k → Starting w q true
-  start-seen i k h e = (frameOf k (i .octets) (i .start) (i .length) (i .verdict), rw e at h)
+  pub start-seen : (i : Item) (k : Kind) → Seen w 0 q i → i .kind ≡ of.Frame k → Starting w q true
+  start-seen i k h e = let h′ : SeenBy w 0 q (of.Frame k) _ _ _ _ = rw e at h in (frameOf k (i .octets) (i .start) (i .length) (i .verdict), h′ .0)
 
-  pub none-seen : (i : Item) → Seen w 0 q i → i .found ≡ Nothing → Starting w q false
+  pub none-seen : (i : Item) → Seen w 0 q i → i .kind ≡ of.Gap → Starting w q false
   none-seen i h e = rw e at h
 
 pub not-starting : (w : Capture) (q : ℕ) (b : Bool) → Starting w q b → b ≡ false → (f : Frame) → Starts rules w q f → ⊥

@@ -12,6 +12,8 @@ use Rattle.bits.specs.Bit.{bitAt, twenty, bitsFrom}
 use Rattle.bits.proofs.BitLaws.{twenty-bit}
 use Rattle.channel.specs.declared.Direction.{Direction}
 use Rattle.channel.specs.declared.Kind.{Kind}
+use Rattle.channel.specs.declared.Found.{Found}
+use Rattle.channel.specs.declared.Found.the-variants.{Is, Nothing}
 use Rattle.channel.specs.Kinds.{bodyOf, leastTail}
 use Rattle.channel.specs.Coding.{Word, wordAt, isBody}
 use Rattle.channel.specs.Verdict.{verdictOf, startsBy, follows, allowed}
@@ -20,12 +22,10 @@ use Rattle.channel.proofs.BoolLaws.{never}
 use Rattle.channel.proofs.TailLaws.{tail-one}
 use Rattle.channel.proofs.FrameLaws.{one-body, body-high, uncut}
 use Rattle.channel.proofs.CutLaws.{allowed-by, verdict-cut}
-use Rattle.frame.specs.declared.coding.Found.{Found}
-use Rattle.frame.specs.declared.coding.Found.the-variants.{Is, Nothing}
 use Rattle.frame.specs.Found.{KindOf}
 use Rattle.item.specs.declared.Item.{Item}
 use Rattle.item.specs.Item.{frameOf}
-use Rattle.reader.specs.Seen.{Seen}
+use Rattle.reader.specs.Seen.{gapOf, octetsAt, Seen}
 
 module _ (f : ℕ → Bool) (n : ℕ) (d : Direction) (x p : ℕ) (o : List ℕ) (octets : o ≡ twenty (bitsFrom f n p)) where
   abbrev w : Capture
@@ -35,8 +35,8 @@ module _ (f : ℕ → Bool) (n : ℕ) (d : Direction) (x p : ℕ) (o : List ℕ)
   g = bitAt o
 
   -- a body before n is in the octets
-  word-held : (k : Kind) → p + bodyOf k ≤ n → wordAt g 0 (bodyOf k) ≡ wordAt f p (bodyOf k)
-  word-held k h = fun-ext (λ i. go i (ltb i (bodyOf k)) refl)
+  word-in : (k : Kind) → p + bodyOf k ≤ n → wordAt g 0 (bodyOf k) ≡ wordAt f p (bodyOf k)
+  word-in k h = fun-ext (λ i. go i (ltb i (bodyOf k)) refl)
     where
       go : (i : ℕ) (b : Bool) → ltb i (bodyOf k) ≡ b → b && g (0 + i) ≡ b && f (p + i)
       go i false e = refl
@@ -50,7 +50,7 @@ module _ (f : ℕ → Bool) (n : ℕ) (d : Direction) (x p : ℕ) (o : List ℕ)
   due-body : (h : Frame) → Due w x p h → isBody d g (h .kind) ≡ true
   due-body h e =
       sym (uncut d g (h .kind))
-      ∙ ap (λ (b : Word). isBody d b (h .kind)) (word-held (h .kind) (e .stands .before) ∙ sym (e .stands .bits))
+      ∙ ap (λ (b : Word). isBody d b (h .kind)) (word-in (h .kind) (e .stands .before) ∙ sym (e .stands .bits))
       ∙ e .stands .holds
 
   -- no kind: nothing is due
@@ -69,7 +69,7 @@ module _ (f : ℕ → Bool) (n : ℕ) (d : Direction) (x p : ℕ) (o : List ℕ)
     pub none-refused : (v : ℕ) (r : Bool) → v ≡ verdictOf x g k → r ≡ cond (eqb x 0) (startsBy k v) (follows x k) → not r ≡ true → (h : Frame) → Due w x p h → ⊥
     none-refused v r j t z h e =
         let q = same-kind h e in
-        let b : h .body ≡ wordAt g 0 (bodyOf (h .kind)) = e .stands .bits ∙ sym (word-held (h .kind) (e .stands .before)) in
+        let b : h .body ≡ wordAt g 0 (bodyOf (h .kind)) = e .stands .bits ∙ sym (word-in (h .kind) (e .stands .before)) in
         let a : allowed x (wordAt g 0 (bodyOf (h .kind))) (h .kind) ≡ true = subst (λ (u : Word). allowed x u (h .kind) ≡ true) b (e .allows) in
         let a′ : allowed x (wordAt g 0 (bodyOf k)) k ≡ true = subst (λ (i : Kind). allowed x (wordAt g 0 (bodyOf i)) i ≡ true) q a in
         never (sym a′ ∙ sym (allowed-by x g k v j) ∙ sym t ∙ not-true r z)
@@ -84,25 +84,27 @@ module _ (f : ℕ → Bool) (n : ℕ) (d : Direction) (x p : ℕ) (o : List ℕ)
 
     -- and where nothing is amiss it is due
     pub seen-due : (v t : ℕ) (r : Bool) → p + bodyOf k ≤ n → v ≡ verdictOf x g k → r ≡ cond (eqb x 0) (startsBy k v) (follows x k) → not r ≡ false → Tail w (p + bodyOf k) t
-        → leastTail d k ≤ t → Due w x p (frameOf k o p t v)
-    seen-due v t r l j a z whole m =
-        record {
-          stands =
-              record {
-                at = refl;
-                before = l;
-                bits = word-held k l;
-                holds = uncut d g k ∙ is;
-                tail = whole;
-                least = m;
-              };
-          allows = sym (allowed-by x g k v j) ∙ sym a ∙ not-false r z;
-          judged = j ∙ sym (verdict-cut x g k);
-        }
+        → leastTail d k ≤ t → Due w x p (frameOf k o p t v) × (o ≡ octetsAt w p)
+    seen-due v t r l j a z whole m = (
+      record {
+        stands =
+            record {
+              at = refl;
+              before = l;
+              bits = word-in k l;
+              holds = uncut d g k ∙ is;
+              tail = whole;
+              least = m;
+            };
+        allows = sym (allowed-by x g k v j) ∙ sym a ∙ not-false r z;
+        judged = j ∙ sym (verdict-cut x g k);
+      },
+      octets,
+    )
 
 -- an answer without a frame
-pub seen-nothing : (w : Capture) (x p : ℕ) (i : Item) → i .found ≡ Nothing → ((f : Frame) → Due w x p f → ⊥) → Seen w x p i
-seen-nothing w x p i e h = rw e h
+pub seen-gap : (w : Capture) (x p : ℕ) (i : Item) → i ≡ gapOf p 0 → ((f : Frame) → Due w x p f → ⊥) → Seen w x p i
+seen-gap w x p i e h = rw e h
 
 -- an answer by what was found
 pub kind-is : (d : Direction) (g : Word) (r : Found) (k : Kind) → KindOf d g r → r ≡ Is k → isBody d g k ≡ true

@@ -2,16 +2,16 @@
 ghost use mathlib.Core.Path.{_≡_};
 ghost use Prim.Native.Nat.{_+_, _*_, _<_, _≤_};
 ghost use lib.ListN.{length};
-ghost use Rattle.reading.specs.Reading.{Obeys};
 ghost use Rattle.channel.specs.declared.Direction.{Direction as Way};
-ghost use Rattle.channel.specs.Frames.{captureOf, Tail, rules};
+ghost use Rattle.channel.specs.Frames.{captureOf, Tail};
 ghost use Rattle.frame.specs.Kept.{Kept};
-ghost use Rattle.item.specs.Item.{itemOf, cursorOf};
-ghost use Rattle.reader.specs.Seen.{FirstZero, Seen, Starting, GapEnd};
+ghost use Rattle.item.specs.Item.{cursorOf};
+ghost use Rattle.reader.specs.Seen.{FirstZero, gapOf, Seen, Starting, GapEnd, ItemAt};
 use channel::Direction;
-use frame::Found;
+use channel::Found;
 use item::Cursor;
 use item::Item;
+use item::ItemKind;
 
 // The first bit of a byte, from bit r on, that is zero; 8 for none. The ones of the byte are zeros of what is left of 255, whose leading zeros are counted.
 fn first_zero(x: u8, r: usize) -> usize
@@ -43,20 +43,21 @@ fn tail_at(s: &[u8], n: usize, q: usize) -> usize
     end - q
 }
 
-// What stands where no frame is due.
-fn no_frame() -> Item
-    ensures { λ r. ⌜ r .found ≡ Found.Nothing ⌝ }
+// A gap.
+fn gap(start: usize, length: usize) -> Item
+    ensures { λ r. ⌜ r ≡ gapOf start length ⌝ }
 {
     Item {
-        found: Found::Nothing,
+        kind: ItemKind::Gap,
         octets: [0u8; 20],
-        start: 0,
-        length: 0,
+        start: start,
+        length: length,
         verdict: 0,
     }
 }
 
-// The frame that is due at p in context x, if any. The tail is counted last, so that only the tail of a frame that is otherwise due is gone through.
+// The frame that is due at p in context x; where none is, the gap there, of which no bit is searched yet. The tail is counted last, so that only the tail of
+// a frame that is otherwise due is gone through.
 fn frame_at(s: &[u8], n: usize, d: Direction, p: usize, x: u8, masks: &mut [u64]) -> Item
     requires { ⌜ (p ≤ n) × (n ≤ 8 * length (now s)) × (length (now s) ≤ 65536) × Kept (now masks) ⌝ }
     ensures { λ r. ⌜ Seen (captureOf (now (s .entry)) n d) x p r × Kept (now (masks .exit)) ⌝ }
@@ -66,25 +67,25 @@ fn frame_at(s: &[u8], n: usize, d: Direction, p: usize, x: u8, masks: &mut [u64]
         Found::Is(k) => {
             let behind = p + kinds::body(k);
             if n < behind {
-                return no_frame();
+                return gap(p, 0);
             }
             let verdict = frame::verdict_in(o, k, x, masks);
             if !kinds::allowed_in(k, x, verdict) {
-                return no_frame();
+                return gap(p, 0);
             }
             let tail = tail_at(s, n, behind);
             if tail < kinds::least_tail(d, k) {
-                return no_frame();
+                return gap(p, 0);
             }
             Item {
-                found: Found::Is(k),
+                kind: ItemKind::Frame(k),
                 octets: o,
                 start: p,
                 length: tail,
                 verdict: verdict,
             }
         }
-        Found::Nothing => no_frame(),
+        Found::Nothing => gap(p, 0),
     }
 }
 
@@ -94,10 +95,10 @@ fn starts_at(s: &[u8], n: usize, d: Direction, q: usize, masks: &mut [u64]) -> b
     ensures { λ r. ⌜ Starting (captureOf (now (s .entry)) n d) q r × Kept (now (masks .exit)) ⌝ }
 {
     let i = frame_at(s, n, d, q, 0, masks);
-    let found = i.found;
-    match found {
-        Found::Is(_) => true,
-        Found::Nothing => false,
+    let kind = i.kind;
+    match kind {
+        ItemKind::Frame(_) => true,
+        ItemKind::Gap => false,
     }
 }
 
@@ -135,23 +136,17 @@ fn gap_end(s: &[u8], n: usize, d: Direction, from: usize, masks: &mut [u64]) -> 
 // The item at a cursor before n: the frame that is due there, else the gap to the next place where a frame starts a run, or to n.
 pub fn item_at(s: &[u8], n: usize, d: Direction, c: Cursor, masks: &mut [u64]) -> Item
     requires { ⌜ (c .position < n) × (n ≤ 8 * length (now s)) × (length (now s) ≤ 65536) × Kept (now masks) ⌝ }
-    ensures { λ r. ⌜ Obeys rules (captureOf (now (s .entry)) n d) (cursorOf c) (itemOf r) × Kept (now (masks .exit)) ⌝ }
+    ensures { λ r. ⌜ ItemAt (captureOf (now (s .entry)) n d) (cursorOf c) r × Kept (now (masks .exit)) ⌝ }
 {
     let p = c.position;
     let x = c.context;
     let i = frame_at(s, n, d, p, x, masks);
-    let found = i.found;
-    match found {
-        Found::Is(_) => i,
-        Found::Nothing => {
+    let kind = i.kind;
+    match kind {
+        ItemKind::Frame(_) => i,
+        ItemKind::Gap => {
             let end = gap_end(s, n, d, p + 1, masks);
-            Item {
-                found: Found::Nothing,
-                octets: [0u8; 20],
-                start: p,
-                length: end - p,
-                verdict: 0,
-            }
+            gap(p, end - p)
         }
     }
 }

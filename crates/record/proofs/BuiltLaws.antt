@@ -158,18 +158,18 @@ parityPlaces Amr670 = []
 parityPlaces Amr740 = []
 
 -- every place that is no D place is fixed, or one of control, of extended or of the parities
-abbrev held : Kind → List ℕ
-held k = zerosOf (patternOf k) ++ (onesOf (patternOf k) ++ (controlPlaces k ++ (extendedPlaces k ++ parityPlaces k)))
+abbrev beside : Kind → List ℕ
+beside k = zerosOf (patternOf k) ++ (onesOf (patternOf k) ++ (controlPlaces k ++ (extendedPlaces k ++ parityPlaces k)))
 
-taken-held : (k : Kind) → all (λ i. elem i (held k)) (taken k) ≡ true
-taken-held Speech = refl
-taken-held Data = refl
-taken-held Om = refl
-taken-held Configuration = refl
-taken-held NoSpeech = refl
-taken-held Lower = refl
-taken-held Amr670 = refl
-taken-held Amr740 = refl
+taken-beside : (k : Kind) → all (λ i. elem i (beside k)) (taken k) ≡ true
+taken-beside Speech = refl
+taken-beside Data = refl
+taken-beside Om = refl
+taken-beside Configuration = refl
+taken-beside NoSpeech = refl
+taken-beside Lower = refl
+taken-beside Amr670 = refl
+taken-beside Amr740 = refl
 
 module _ (g : Word) where
   -- octets have the word's bits at some places
@@ -390,8 +390,8 @@ module _ (g : Word) where
     fixed-too : fixed g (patternOf k) ≡ true
     fixed-too = search ands
 
-    has-held : Has (withParities k o₃) (held k)
-    has-held i m =
+    has-beside : Has (withParities k o₃) (beside k)
+    has-beside i m =
         elim (elem-or i (zerosOf (patternOf k)) _ m) [
           | inl z ↦ last .0 i (kept₃ i (kept₂ i (kept₁ i (zero-at (bitAt o₀) (patternOf k) i z (fixed-octets (patternOf k)) ∙ sym (zero-at g (patternOf k) i z fixed-too)))))
           | inr m ↦ elim (elem-or i (onesOf (patternOf k)) _ m) [
@@ -412,4 +412,4 @@ module _ (g : Word) where
       where
         go : (m : Bool) → elem i (taken k) ≡ m → bitAt (withParities k o₃) i ≡ g i
         go false m = last .0 i (has-d i (d-rule k .whole i l m))
-        go true m = has-held i (all-at (λ j. elem j (held k)) (taken k) i m (taken-held k))
+        go true m = has-beside i (all-at (λ j. elem j (beside k)) (taken k) i m (taken-beside k))

@@ -21,8 +21,8 @@ use Rattle.channel.specs.Control.{fromTop, control, extended}
 use Rattle.channel.specs.Frames.{Frame}
 use Rattle.channel.proofs.CutLaws.{control-cut, extended-cut, d-cut}
 use Rattle.dbits.specs.DBits.{dBytes}
-use Rattle.frame.specs.declared.coding.Found.{Found}
-use Rattle.frame.specs.declared.coding.Found.the-variants.{Is, Nothing}
+use Rattle.item.specs.declared.ItemKind.{ItemKind}
+use Rattle.item.specs.declared.ItemKind.the-variants as of
 use Rattle.item.specs.declared.Item.{Item}
 use Rattle.item.specs.Item.{frameOf, itemBy, itemOf}
 use Rattle.record.specs.Record.{wide, dLength, sizeOf, recordOf}
@@ -74,14 +74,14 @@ pub size-le : (x : reading.Item Frame) → sizeOf x ≤ 31
 size-le (reading.gap start length) = lit< tt
 size-le (reading.frame f) = omega (arith, d-length-le (f .kind))
 
--- the size by what is found, whatever else the item holds
-size-by : (found : Found) (octets : List ℕ) (start length verdict : ℕ) → sizeBy found ≡ sizeOf (itemBy found octets start length verdict)
-size-by (Is k) octets start length verdict = refl
-size-by Nothing octets start length verdict = refl
+-- the size by what an item is, whatever else it has
+size-by : (kind : ItemKind) (octets : List ℕ) (start length verdict : ℕ) → sizeBy kind ≡ sizeOf (itemBy kind octets start length verdict)
+size-by (of.Frame k) octets start length verdict = refl
+size-by of.Gap octets start length verdict = refl
 
--- the size by what is found is that of the record of the item
-pub size-of : (i : Item) → sizeBy (i .found) ≡ sizeOf (itemOf i)
-size-of i = size-by (i .found) (i .octets) (i .start) (i .length) (i .verdict)
+-- the size by what an item is, is that of its record
+pub size-of : (i : Item) → sizeBy (i .kind) ≡ sizeOf (itemOf i)
+size-of i = size-by (i .kind) (i .octets) (i .start) (i .length) (i .verdict)
 
 -- a number in four bytes, as the code divides it
 abbrev four : ℕ → List ℕ
@@ -107,7 +107,7 @@ pub bytes-cut : (g : Word) (k : Kind) → dBytes (wordAt g 0 (bodyOf k)) k ≡ d
 unfolding dBytes
 bytes-cut g k = ap (λ bs. map (λ j. fromTop (drop (8 * j) bs)) (count 19 0)) (d-cut g k)
 
--- the record of a frame that is held, by its octets
+-- the record of a frame, by its octets
 pub record-is : (k : Kind) (octets : List ℕ) (start tail verdict : ℕ) → recordOf (reading.frame (frameOf k octets start tail verdict))
     ≡ kindNo k ∷ wide 4 start ++ wide 4 tail ++ (control (bitAt octets) k ∷ extended (bitAt octets) k ∷ verdict ∷ []) ++ take (dLength k) (dBytes (bitAt octets) k)
 unfolding recordOf
@@ -132,18 +132,18 @@ module _ (h d bytes : List ℕ) (c x v n : ℕ) (nine : length h ≡ 9) (three :
       let r : drop (12 + n) (p ++ drop 3 d) ≡ drop n (drop 3 d) = rw l at (drop-append-add p (drop 3 d) n) in
       rw (stored, t, r, drop-drop)
 
--- an item that is held, by what is found
+-- an item by what it is
 module _ (i : Item) where
   -- the size of the record of a frame
-  pub size-frame : (k : Kind) → i .found ≡ Is k → sizeOf (itemOf i) ≡ 12 + dLength k
+  pub size-frame : (k : Kind) → i .kind ≡ of.Frame k → sizeOf (itemOf i) ≡ 12 + dLength k
   size-frame k e = rw e
 
   -- the size of the record of a gap
-  pub size-gap : i .found ≡ Nothing → sizeOf (itemOf i) ≡ 9
+  pub size-gap : i .kind ≡ of.Gap → sizeOf (itemOf i) ≡ 9
   size-gap e = rw e
 
   -- what is put for a frame is its record
-  pub frame-put : (k : Kind) (out front last : List ℕ) (kind c x : ℕ) → i .found ≡ Is k → sizeOf (itemOf i) ≤ length out → kind ≡ kindNo k
+  pub frame-put : (k : Kind) (out front last : List ℕ) (kind c x : ℕ) → i .kind ≡ of.Frame k → sizeOf (itemOf i) ≤ length out → kind ≡ kindNo k
       → front ≡ kind ∷ wide 4 (i .start) ++ wide 4 (i .length) ++ drop 9 out → c ≡ control (bitAt (i .octets)) k → x ≡ extended (bitAt (i .octets)) k
       → last ≡ paste (set (set (set front 9 c) 10 x) 11 (i .verdict)) 12 (dBytes (bitAt (i .octets)) k) (dLength k) → last ≡ recordOf (itemOf i) ++ drop (sizeOf (itemOf i)) out
   frame-put k out front last kind c x e fits en ef ec ex el =
@@ -162,6 +162,6 @@ module _ (i : Item) where
       el ∙ put ∙ ap (λ (t : List ℕ). bytes ++ t) r ∙ sym is
 
   -- what is put for a gap is its record
-  pub gap-put : (out last : List ℕ) → i .found ≡ Nothing → last ≡ 0 ∷ wide 4 (i .start) ++ wide 4 (i .length) ++ drop 9 out → last ≡ recordOf (itemOf i) ++ drop (sizeOf (itemOf i)) out
+  pub gap-put : (out last : List ℕ) → i .kind ≡ of.Gap → last ≡ 0 ∷ wide 4 (i .start) ++ wide 4 (i .length) ++ drop 9 out → last ≡ recordOf (itemOf i) ++ drop (sizeOf (itemOf i)) out
   unfolding recordOf
   gap-put out last e el = el ∙ rw e

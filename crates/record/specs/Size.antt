@@ -1,11 +1,11 @@
--- The size of a record by what was found, before the item is made.
+-- The size of a record by what its item is.
 -- Assumes nothing.
 use Prim.Native.Nat.{ℕ, _+_}
-use Rattle.frame.specs.declared.coding.Found.{Found}
-use Rattle.frame.specs.declared.coding.Found.the-variants.{Is, Nothing}
+use Rattle.item.specs.declared.ItemKind.{ItemKind}
+use Rattle.item.specs.declared.ItemKind.the-variants as of
 use Rattle.record.specs.Record.{dLength}
 
--- how many bytes the record of a frame of the kind found has, or that of a gap where nothing is found
-abbrev pub sizeBy : Found → ℕ
-sizeBy (Is k) = 12 + dLength k
-sizeBy Nothing = 9
+-- how many bytes the record of a frame of a kind has, or that of a gap
+abbrev pub sizeBy : ItemKind → ℕ
+sizeBy (of.Frame k) = 12 + dLength k
+sizeBy of.Gap = 9

@@ -1,8 +1,8 @@
 // The record of an item, written into a lent part of a buffer.
 use channel::Kind;
-use frame::Found;
 use frame::places;
 use item::Item;
+use item::ItemKind;
 ghost use mathlib.Core.Path.{_≡_};
 ghost use mathlib.Core.List.{_++_, _∷_};
 ghost use Prim.Native.Nat.{_+_, _*_, _≤_};
@@ -11,7 +11,6 @@ ghost use Rattle.bits.specs.Bit.{bitAt};
 ghost use Rattle.channel.specs.Control.{control, extended};
 ghost use Rattle.dbits.specs.DBits.{dBytes};
 ghost use Rattle.channel.specs.declared.Kind.{Kind};
-ghost use Rattle.frame.specs.declared.coding.Found.the-variants.{Is};
 ghost use Rattle.dbits.specs.Plan.{Made, Plans};
 ghost use Rattle.item.specs.Item.{itemOf};
 ghost use Rattle.record.specs.Record.{wide, numberAt, dLength, sizeOf, recordOf};
@@ -24,13 +23,13 @@ fn d_length(k: Kind) -> usize
     (dbits::d_count(k) + 7) / 8
 }
 
-// How many bytes the record of an item has, by what is found.
-pub fn size(found: Found) -> usize
-    ensures { λ r. ⌜ r ≡ sizeBy found ⌝ }
+// How many bytes the record of an item has, by what the item is.
+pub fn size(kind: ItemKind) -> usize
+    ensures { λ r. ⌜ r ≡ sizeBy kind ⌝ }
 {
-    match found {
-        Found::Is(k) => 12 + d_length(k),
-        Found::Nothing => 9,
+    match kind {
+        ItemKind::Frame(k) => 12 + d_length(k),
+        ItemKind::Gap => 9,
     }
 }
 
@@ -109,36 +108,36 @@ pub fn number_at(bytes: &[u8], at: usize) -> u64
     joined(bytes[at], bytes[at + 1], bytes[at + 2], bytes[at + 3])
 }
 
-// Makes the plan that the record of an item found wants.
-pub fn ready(plan: &mut [u32], table: &[u8], found: Found)
+// Makes the plan that the record of an item wants.
+pub fn ready(plan: &mut [u32], table: &[u8], kind: ItemKind)
     requires { ⌜ Plans (now table) (now plan) ⌝ }
-    ensures { λ _. ⌜ Plans (now (table .entry)) (now (plan .exit)) × ((k : Kind) → found ≡ Is k → Made (now (table .entry)) (now (plan .exit)) k) ⌝ }
+    ensures { λ _. ⌜ Plans (now (table .entry)) (now (plan .exit)) × ((k : Kind) → kind ≡ ItemKind.Frame k → Made (now (table .entry)) (now (plan .exit)) k) ⌝ }
 {
-    match found {
-        Found::Is(k) => dbits::ready(plan, table, k),
-        Found::Nothing => {}
+    match kind {
+        ItemKind::Frame(k) => dbits::ready(plan, table, k),
+        ItemKind::Gap => {}
     }
 }
 
 // The record of an item, at the front of a lent part; the rest of the part is unchanged.
 pub fn put(out: &mut [u8], i: Item, table: &[u8], plan: &[u32])
-    requires { ⌜ (sizeOf (itemOf i) ≤ length (now out)) × ((k : Kind) → i .found ≡ Is k → Made (now table) (now plan) k) ⌝ }
+    requires { ⌜ (sizeOf (itemOf i) ≤ length (now out)) × ((k : Kind) → i .kind ≡ ItemKind.Frame k → Made (now table) (now plan) k) ⌝ }
     ensures { λ _. ⌜ now (out .exit) ≡ recordOf (itemOf i) ++ drop (sizeOf (itemOf i)) (now (out .entry)) ⌝ }
 {
     let start = i.start;
     let span = i.length;
-    let found = i.found;
+    let kind = i.kind;
     let octets = i.octets;
     let verdict = i.verdict;
-    match found {
-        Found::Is(k) => {
+    match kind {
+        ItemKind::Frame(k) => {
             put_front(out, kinds::number(k), start, span);
             out[9] = control_byte(octets, k);
             out[10] = extended_byte(octets, k);
             out[11] = verdict;
             put_d(out, octets, k, table, plan);
         }
-        Found::Nothing => {
+        ItemKind::Gap => {
             put_front(out, 0, start, span);
         }
     }

@@ -1,16 +1,16 @@
 -- `judge::frame_of` meets its contract.
 -- Assumes nothing.
 use native.Mathlib.Omega.{arith}
-use Rattle.judge.proofs.HeldLaws.{found-sound, found-nothing, unsound-by, unsound-nothing}
+use Rattle.judge.proofs.SoundLaws.{judged-sound, judged-unsound, unsound-by, record-none}
 use borrow.Author.Needs.{needs}
 use Rattle.judge.proofs.frame_of.Statement.{statement}
 use Rattle.judge.proofs.frame_of.Tie as tie
 
-held-requires : tie.Need-held-requires
-held-requires c κs = search needs
+record-by-requires : tie.Need-record-by-requires
+record-by-requires c κs = search needs
 
-enum-known-found : tie.Need-enum-known-found
-enum-known-found c = search needs
+enum-known-kind : tie.Need-enum-known-kind
+enum-known-kind c = search needs
 
 sound-requires : tie.Need-sound-requires
 sound-requires c κs = search needs
@@ -21,11 +21,11 @@ same-length c = search needs
 returns : tie.Need-returns
 returns c =
     let a = c .before .before .before .before .before .before .before .before .before .before .before .before .before .args in
-    let h = c .before .before .before .before .before .before .before .before .held in
+    let h = c .before .before .before .before .before .before .before .before .record-by in
     let s = c .before .sound in (
-      found-sound (a .d) (a .part .now) (h .result) (c .before .before .before .before .found .given .0 .0) (h .ensures .0) (c .before .before .before .before .found .given .1) (s .result) (s .ensures) (c .if1 .taken),
+      judged-sound (a .d) (a .part .now) (h .result) (c .before .before .before .before .kind .given .0 .0) (h .ensures .0) (c .before .before .before .before .kind .given .1) (s .result) (s .ensures) (c .if1 .taken),
       omega (arith, h .ensures .0 .start-fits),
-      omega (arith, h .ensures .0 .length-fits),
+      omega (arith, h .ensures .0 .tail-fits),
       h .ensures .1 .plans,
     )
 
@@ -45,10 +45,10 @@ returns-2 : tie.Need-returns-2
 returns-2 c =
     let a = c .before .before .before .before .before .before .before .before .before .before .before .before .before .before .args in
     let s = c .before .before .sound in (
-      found-nothing (a .d) (a .part .now) (c .unsound .result) (c .unsound .ensures) (unsound-by (a .d) (a .part .now) _ (s .result) (s .ensures) (c .before .if1 .left)),
+      judged-unsound (a .d) (a .part .now) (c .unsound .result) (c .unsound .ensures) (unsound-by (a .d) (a .part .now) _ (s .result) (s .ensures) (c .before .if1 .left)),
       rw (c .unsound .ensures) (omega arith),
       rw (c .unsound .ensures) (omega arith),
-      c .before .before .before .before .before .before .before .before .before .held .ensures .1 .plans,
+      c .before .before .before .before .before .before .before .before .before .record-by .ensures .1 .plans,
     )
 
 same-length-3 : tie.Need-same-length-3
@@ -57,8 +57,8 @@ same-length-3 c = search needs
 returns-3 : tie.Need-returns-3
 returns-3 c =
     let a = c .before .before .before .before .before .before .before .before .before .before .args in
-    let h = c .before .before .before .before .before .held in (
-      found-nothing (a .d) (a .part .now) (c .unsound2 .result) (c .unsound2 .ensures) (unsound-nothing (a .d) (a .part .now) (h .result) (h .ensures .0) (c .before .enum-told .given .1)),
+    let h = c .before .before .before .before .before .record-by in (
+      judged-unsound (a .d) (a .part .now) (c .unsound2 .result) (c .unsound2 .ensures) (record-none (a .part .now) (h .result) (h .ensures .0) (c .before .enum-told .given .1) (a .d)),
       rw (c .unsound2 .ensures) (omega arith),
       rw (c .unsound2 .ensures) (omega arith),
       h .ensures .1 .plans,
@@ -68,8 +68,8 @@ pub frame-of-spec : {M : Type 1} → statement M
 frame-of-spec =
     tie.close
     (tie.spec
-    held-requires
-    enum-known-found
+    record-by-requires
+    enum-known-kind
     sound-requires
     same-length
     returns

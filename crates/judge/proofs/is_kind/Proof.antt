@@ -3,7 +3,7 @@
 use mathlib.Core.Path.{sym, subst}
 use Rattle.bits.specs.Bit.{bitAt}
 use Rattle.frame.specs.Found.{KindOf}
-use Rattle.judge.proofs.HeldLaws.{kind-same}
+use Rattle.judge.proofs.SoundLaws.{kind-same}
 use borrow.Author.Needs.{needs}
 use Rattle.judge.proofs.is_kind.Statement.{statement}
 use Rattle.judge.proofs.is_kind.Tie as tie

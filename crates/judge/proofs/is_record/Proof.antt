@@ -8,8 +8,8 @@ use lib.ListN.{length, getD, List·getD-append}
 use Rattle.item.specs.Item.{itemOf}
 use Rattle.record.specs.Record.{sizeOf, recordOf}
 use Rattle.record.proofs.RecordLaws.{size-of, size-le, record-length}
-use Rattle.judge.specs.Held.{SameTo}
-use Rattle.judge.proofs.HeldLaws.{same-front}
+use Rattle.judge.specs.Judged.{SameTo}
+use Rattle.judge.proofs.SoundLaws.{same-front}
 use borrow.Author.Needs.{needs}
 use Rattle.judge.proofs.is_record.Statement.{statement}
 use Rattle.judge.proofs.is_record.Tie as tie

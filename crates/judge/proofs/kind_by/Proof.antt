@@ -1,7 +1,7 @@
 -- `judge::kind_by` meets its contract.
 -- Assumes nothing.
 use mathlib.Core.Path.{sym}
-use Rattle.judge.proofs.HeldLaws.{kind-none}
+use Rattle.judge.proofs.SoundLaws.{kind-none}
 use Rattle.judge.proofs.kind_by.Statement.{statement}
 use Rattle.judge.proofs.kind_by.Tie as tie
 

@@ -6,7 +6,7 @@ use native.Mathlib.Omega.{arith}
 use Rattle.bits.specs.Bit.{bitAt}
 use Rattle.channel.specs.Frames.{captureOf, Tail}
 use Rattle.channel.proofs.FrameLaws.{body-high}
-use Rattle.reader.proofs.SeenLaws.{none-of-no-kind, none-past, none-refused, none-short, seen-due, seen-nothing, kind-is, kind-no}
+use Rattle.reader.proofs.SeenLaws.{none-of-no-kind, none-past, none-refused, none-short, seen-due, seen-gap, kind-is, kind-no}
 use borrow.Author.Needs.{needs}
 use Rattle.reader.proofs.frame_at.Statement.{statement}
 use Rattle.reader.proofs.frame_at.Tie as tie
@@ -26,8 +26,8 @@ body-requires c κs = search needs
 add-behind : tie.Need-add-behind
 add-behind c = omega (arith, c .body .ensures, body-high (c .before .before .k .given .0 .0))
 
-no-frame-requires : tie.Need-no-frame-requires
-no-frame-requires c κs = search needs
+gap-requires : tie.Need-gap-requires
+gap-requires c κs = search needs
 
 returns : tie.Need-returns
 returns c =
@@ -35,7 +35,7 @@ returns c =
     let the-octets = c .before .before .before .before .before .before .before .octets in
     let the-kind-of = c .before .before .before .before .before .before .kind-of in
     let the-k = c .before .before .before .before .k in (
-      seen-nothing (captureOf (a .s .now) (a .n) (a .d)) (a .x) (a .p) (c .no-frame .result) (c .no-frame .ensures)
+      seen-gap (captureOf (a .s .now) (a .n) (a .d)) (a .x) (a .p) (c .gap .result) (c .gap .ensures)
           (none-past (bitAt (a .s .now)) (a .n) (a .d) (a .x) (a .p) (the-octets .result) (the-octets .ensures) (the-k .given .0 .0) (kind-is (a .d) (bitAt (the-octets .result)) (the-kind-of .result) (the-k .given .0 .0) (the-kind-of .ensures) (the-k .given .1)) (omega (arith, c .before .before .body .ensures))),
       c .before .before .before .before .before .before .before .before .before .before .pre .3,
     )
@@ -46,8 +46,8 @@ verdict-in-requires c κs = search needs
 allowed-in-requires : tie.Need-allowed-in-requires
 allowed-in-requires c κs = search needs
 
-no-frame-requires-2 : tie.Need-no-frame-requires-2
-no-frame-requires-2 c κs = search needs
+gap-requires-2 : tie.Need-gap-requires-2
+gap-requires-2 c κs = search needs
 
 same-length : tie.Need-same-length
 same-length c = search needs
@@ -60,7 +60,7 @@ returns-2 c =
     let the-k = c .before .before .before .before .before .before .before .before .before .before .k in
     let the-verdict-in = c .before .before .before .before .before .verdict-in in
     let the-allowed-in = c .before .before .allowed-in in (
-      seen-nothing (captureOf (a .s .now) (a .n) (a .d)) (a .x) (a .p) (c .no-frame2 .result) (c .no-frame2 .ensures)
+      seen-gap (captureOf (a .s .now) (a .n) (a .d)) (a .x) (a .p) (c .gap2 .result) (c .gap2 .ensures)
           (none-refused (bitAt (a .s .now)) (a .n) (a .d) (a .x) (a .p) (the-octets .result) (the-octets .ensures) (the-k .given .0 .0) (kind-is (a .d) (bitAt (the-octets .result)) (the-kind-of .result) (the-k .given .0 .0) (the-kind-of .ensures) (the-k .given .1))
           (the-verdict-in .result) (the-allowed-in .result) (the-verdict-in .ensures .0) (the-allowed-in .ensures) (c .before .if2 .taken)),
       the-verdict-in .ensures .1,
@@ -72,8 +72,8 @@ tail-at-requires c κs = search needs
 least-tail-requires : tie.Need-least-tail-requires
 least-tail-requires c κs = search needs
 
-no-frame-requires-3 : tie.Need-no-frame-requires-3
-no-frame-requires-3 c κs = search needs
+gap-requires-3 : tie.Need-gap-requires-3
+gap-requires-3 c κs = search needs
 
 same-length-2 : tie.Need-same-length-2
 same-length-2 c = search needs
@@ -85,7 +85,7 @@ returns-3 c =
     let the-kind-of = c .before .before .before .before .before .before .before .before .before .before .before .before .before .before .before .kind-of in
     let the-k = c .before .before .before .before .before .before .before .before .before .before .before .before .before .k in
     let the-tail-at = c .before .before .before .tail-at in (
-      seen-nothing (captureOf (a .s .now) (a .n) (a .d)) (a .x) (a .p) (c .no-frame3 .result) (c .no-frame3 .ensures)
+      seen-gap (captureOf (a .s .now) (a .n) (a .d)) (a .x) (a .p) (c .gap3 .result) (c .gap3 .ensures)
           (none-short (bitAt (a .s .now)) (a .n) (a .d) (a .x) (a .p) (the-octets .result) (the-octets .ensures) (the-k .given .0 .0) (kind-is (a .d) (bitAt (the-octets .result)) (the-kind-of .result) (the-k .given .0 .0) (the-kind-of .ensures) (the-k .given .1))
           (the-tail-at .result) (subst (λ (q : ℕ). Tail (captureOf (a .s .now) (a .n) (a .d)) q (the-tail-at .result)) (ap (λ (b : ℕ). a .p + b) (c .before .before .before .before .before .before .before .before .before .before .before .body .ensures)) (the-tail-at .ensures (a .d))) (omega (arith, c .before .before .least-tail .ensures))),
       c .before .before .before .before .before .before .before .before .verdict-in .ensures .1,
@@ -94,8 +94,8 @@ returns-3 c =
 enum-told : tie.Need-enum-told
 enum-told c = search needs
 
-no-frame-requires-4 : tie.Need-no-frame-requires-4
-no-frame-requires-4 c κs = search needs
+gap-requires-4 : tie.Need-gap-requires-4
+gap-requires-4 c κs = search needs
 
 same-length-3 : tie.Need-same-length-3
 same-length-3 c = search needs
@@ -121,7 +121,7 @@ returns-5 c =
     let a = c .before .before .before .before .before .before .before .args in
     let the-octets = c .before .before .before .before .octets in
     let the-kind-of = c .before .before .before .kind-of in (
-      seen-nothing (captureOf (a .s .now) (a .n) (a .d)) (a .x) (a .p) (c .no-frame4 .result) (c .no-frame4 .ensures)
+      seen-gap (captureOf (a .s .now) (a .n) (a .d)) (a .x) (a .p) (c .gap4 .result) (c .gap4 .ensures)
           (none-of-no-kind (bitAt (a .s .now)) (a .n) (a .d) (a .x) (a .p) (the-octets .result) (the-octets .ensures) (kind-no (a .d) (bitAt (the-octets .result)) (the-kind-of .result) (the-kind-of .ensures) (c .before .enum-told .given .1))),
       c .before .before .before .before .before .before .before .pre .3,
     )
@@ -135,20 +135,20 @@ frame-at-spec =
     enum-known-k
     body-requires
     add-behind
-    no-frame-requires
+    gap-requires
     returns
     verdict-in-requires
     allowed-in-requires
-    no-frame-requires-2
+    gap-requires-2
     same-length
     returns-2
     tail-at-requires
     least-tail-requires
-    no-frame-requires-3
+    gap-requires-3
     same-length-2
     returns-3
     enum-told
-    no-frame-requires-4
+    gap-requires-4
     same-length-3
     returns-4
     returns-5)

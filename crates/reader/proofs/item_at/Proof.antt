@@ -22,8 +22,11 @@ add-gap-end c = search needs
 gap-end-requires : tie.Need-gap-end-requires
 gap-end-requires c κs = search needs
 
-sub-t14 : tie.Need-sub-t14
-sub-t14 c = search needs
+sub-gap : tie.Need-sub-gap
+sub-gap c = search needs
+
+gap-requires : tie.Need-gap-requires
+gap-requires c κs = search needs
 
 same-length : tie.Need-same-length
 same-length c = search needs
@@ -39,10 +42,10 @@ same-length-2 c = search needs
 
 returns-2 : tie.Need-returns-2
 returns-2 c =
-    let a = c .before .before .before .before .before .before .before .before .before .before .before .before .args in
-    let seen = c .before .before .before .before .before .before .before .before .frame-at in
-    let end = c .before .before .gap-end in
-    (item-gap (captureOf (a .s .now) (a .n) (a .d)) (a .c) (seen .result) (seen .ensures .0) (c .before .before .before .before .enum-told2 .given .1) (end .result) (omega arith) (end .ensures .0), end .ensures .1)
+    let a = c .before .before .before .before .before .before .before .before .before .before .before .before .before .args in
+    let seen = c .before .before .before .before .before .before .before .before .before .frame-at in
+    let end = c .before .before .before .gap-end in
+    (item-gap (captureOf (a .s .now) (a .n) (a .d)) (a .c) (seen .result) (seen .ensures .0) (c .before .before .before .before .before .enum-told2 .given .1) (end .result) (omega arith) (end .ensures .0) (c .gap .result) (c .gap .ensures), end .ensures .1)
 
 pub item-at-spec : {M : Type 1} → statement M
 item-at-spec =
@@ -53,7 +56,8 @@ item-at-spec =
     enum-told-2
     add-gap-end
     gap-end-requires
-    sub-t14
+    sub-gap
+    gap-requires
     same-length
     returns
     same-length-2

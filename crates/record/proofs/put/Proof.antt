@@ -8,8 +8,8 @@ use borrow.Author.Needs.{needs}
 use Rattle.record.proofs.put.Statement.{statement}
 use Rattle.record.proofs.put.Tie as tie
 
-enum-known-found : tie.Need-enum-known-found
-enum-known-found c = search needs
+enum-known-kind : tie.Need-enum-known-kind
+enum-known-kind c = search needs
 
 number-requires : tie.Need-number-requires
 number-requires c κs = search needs
@@ -17,7 +17,7 @@ number-requires c κs = search needs
 put-front-requires : tie.Need-put-front-requires
 put-front-requires c κs =
     let s = c .before .before .before .before .before .before .before .before .before in
-    let f = c .before .before .before .found in
+    let f = c .before .before .before .kind in
     omega (arith, s .pre .0, size-frame (s .args .i) (f .given .0 .0) (f .given .1))
 
 control-byte-requires : tie.Need-control-byte-requires
@@ -26,7 +26,7 @@ control-byte-requires c κs = search needs
 slice-write-out : tie.Need-slice-write-out
 slice-write-out c =
     let s = c .before .before .before .before .before .before .before .before .before .before .before .before .before in
-    let f = c .before .before .before .before .before .before .before .found in
+    let f = c .before .before .before .before .before .before .before .kind in
     omega (arith, c .before .before .before .put-front .kept .0, s .pre .0, size-frame (s .args .i) (f .given .0 .0) (f .given .1))
 
 extended-byte-requires : tie.Need-extended-byte-requires
@@ -35,19 +35,19 @@ extended-byte-requires c κs = search needs
 slice-write-out-2 : tie.Need-slice-write-out-2
 slice-write-out-2 c =
     let s = c .before .before .before .before .before .before .before .before .before .before .before .before .before .before in
-    let f = c .before .before .before .before .before .before .before .before .found in
+    let f = c .before .before .before .before .before .before .before .before .kind in
     simp length-set (omega (arith, c .before .before .before .before .put-front .kept .0, s .pre .0, size-frame (s .args .i) (f .given .0 .0) (f .given .1)))
 
 slice-write-out-3 : tie.Need-slice-write-out-3
 slice-write-out-3 c =
     let s = c .before .before .before .before .before .before .before .before .before .before .before .before .before .before in
-    let f = c .before .before .before .before .before .before .before .before .found in
+    let f = c .before .before .before .before .before .before .before .before .kind in
     simp length-set (omega (arith, c .before .before .before .before .put-front .kept .0, s .pre .0, size-frame (s .args .i) (f .given .0 .0) (f .given .1)))
 
 put-d-requires : tie.Need-put-d-requires
 put-d-requires c κs =
     let s = c .before .before .before .before .before .before .before .before .before .before .before .before .before .before .before in
-    let f = c .before .before .before .before .before .before .before .before .before .found in
+    let f = c .before .before .before .before .before .before .before .before .before .kind in
     (simp length-set (omega (arith, c .before .before .before .before .before .put-front .kept .0, s .pre .0, size-frame (s .args .i) (f .given .0 .0) (f .given .1))), s .pre .1 (f .given .0 .0) (f .given .1))
 
 enum-told : tie.Need-enum-told
@@ -64,7 +64,7 @@ same-length c = c .before .before .put-d .kept .0 ∙ simp length-set (c .before
 returns : tie.Need-returns
 returns c =
     let s = c .before .before .before .before .before .before .before .before .before .before .before .before .before .before .before .before .before .before in
-    let f = c .before .before .before .before .before .before .before .before .before .before .before .before .found in
+    let f = c .before .before .before .before .before .before .before .before .before .before .before .before .kind in
     let front = c .before .before .before .before .before .before .before .before .put-front in
     let d = c .before .before .put-d in
     let number = c .before .before .before .before .before .before .before .before .before .number in
@@ -86,7 +86,7 @@ pub put-spec : {M : Type 1} → statement M
 put-spec =
     tie.close
     (tie.spec
-    enum-known-found
+    enum-known-kind
     number-requires
     put-front-requires
     control-byte-requires

@@ -4,8 +4,8 @@ use mathlib.Core.Path.{refl}
 use Rattle.bits.specs.Bit.{bitAt}
 use Rattle.channel.specs.declared.Pattern.the-variants.{Hr, Low, P670, P740}
 use Rattle.channel.specs.declared.Kind.the-variants.{Amr670, Amr740}
-use Rattle.frame.specs.declared.coding.Found.the-variants.{Is}
-use Rattle.frame.proofs.CodingLaws.{held-in, held-nowhere, kind-in, kind-nowhere}
+use Rattle.channel.specs.declared.Found.the-variants.{Is}
+use Rattle.frame.proofs.CodingLaws.{sync-in, sync-nowhere, kind-in, kind-nowhere}
 use borrow.Author.Needs.{needs}
 use Rattle.frame.proofs.coding.kind_of.Statement.{statement}
 use Rattle.frame.proofs.coding.kind_of.Tie as tie
@@ -49,7 +49,7 @@ returns c =
     let p = c .before .before .before .before .before .before .pattern-of in
     let w = c .before .before .before .before .before .before .before .words-of in
     let t = c .before .before .before .before .t in
-    kind-in (a .d) (bitAt (a .t1)) Hr (c .hr-kind .result) (held-in (bitAt (a .t1)) (p .result) (t .given .0 .0) Hr (p .ensures (a .t1) (w .ensures)) (t .given .1) (c .before .enum-told .given .1)) (c .hr-kind .ensures (a .t1) (w .ensures))
+    kind-in (a .d) (bitAt (a .t1)) Hr (c .hr-kind .result) (sync-in (bitAt (a .t1)) (p .result) (t .given .0 .0) Hr (p .ensures (a .t1) (w .ensures)) (t .given .1) (c .before .enum-told .given .1)) (c .hr-kind .ensures (a .t1) (w .ensures))
 
 returns-2 : tie.Need-returns-2
 returns-2 c =
@@ -57,7 +57,7 @@ returns-2 c =
     let p = c .before .before .before .before .before .before .pattern-of in
     let w = c .before .before .before .before .before .before .before .words-of in
     let t = c .before .before .before .before .t in
-    kind-in (a .d) (bitAt (a .t1)) Low (c .low-kind .result) (held-in (bitAt (a .t1)) (p .result) (t .given .0 .0) Low (p .ensures (a .t1) (w .ensures)) (t .given .1) (c .before .enum-told2 .given .1)) (c .low-kind .ensures (a .t1) (w .ensures))
+    kind-in (a .d) (bitAt (a .t1)) Low (c .low-kind .result) (sync-in (bitAt (a .t1)) (p .result) (t .given .0 .0) Low (p .ensures (a .t1) (w .ensures)) (t .given .1) (c .before .enum-told2 .given .1)) (c .low-kind .ensures (a .t1) (w .ensures))
 
 returns-3 : tie.Need-returns-3
 returns-3 c =
@@ -65,7 +65,7 @@ returns-3 c =
     let p = c .before .before .before .before .before .pattern-of in
     let w = c .before .before .before .before .before .before .words-of in
     let t = c .before .before .before .t in
-    kind-in (a .d) (bitAt (a .t1)) P670 (Is Amr670) (held-in (bitAt (a .t1)) (p .result) (t .given .0 .0) P670 (p .ensures (a .t1) (w .ensures)) (t .given .1) (c .enum-told3 .given .1)) (refl, refl)
+    kind-in (a .d) (bitAt (a .t1)) P670 (Is Amr670) (sync-in (bitAt (a .t1)) (p .result) (t .given .0 .0) P670 (p .ensures (a .t1) (w .ensures)) (t .given .1) (c .enum-told3 .given .1)) (refl, refl)
 
 returns-4 : tie.Need-returns-4
 returns-4 c =
@@ -73,13 +73,13 @@ returns-4 c =
     let p = c .before .before .before .before .before .pattern-of in
     let w = c .before .before .before .before .before .before .words-of in
     let t = c .before .before .before .t in
-    kind-in (a .d) (bitAt (a .t1)) P740 (Is Amr740) (held-in (bitAt (a .t1)) (p .result) (t .given .0 .0) P740 (p .ensures (a .t1) (w .ensures)) (t .given .1) (c .enum-told4 .given .1)) (refl, refl)
+    kind-in (a .d) (bitAt (a .t1)) P740 (Is Amr740) (sync-in (bitAt (a .t1)) (p .result) (t .given .0 .0) P740 (p .ensures (a .t1) (w .ensures)) (t .given .1) (c .enum-told4 .given .1)) (refl, refl)
 
 returns-5 : tie.Need-returns-5
 returns-5 c =
     let a = c .before .before .before .before .before .args in
     let p = c .before .before .pattern-of in
-    kind-nowhere (a .d) (bitAt (a .t1)) (held-nowhere (bitAt (a .t1)) (p .result) (p .ensures (a .t1) (c .before .before .before .words-of .ensures)) (c .enum-told5 .given .1))
+    kind-nowhere (a .d) (bitAt (a .t1)) (sync-nowhere (bitAt (a .t1)) (p .result) (p .ensures (a .t1) (c .before .before .before .words-of .ensures)) (c .enum-told5 .given .1))
 
 pub kind-of-spec : {M : Type 1} → statement M
 kind-of-spec =

@@ -1,6 +1,6 @@
 -- `item::Cursor::over` meets its contract: by the kind of item.
 -- Assumes nothing.
-use mathlib.Core.Path.{_≡_, refl, sym, _∙_, ap}
+use mathlib.Core.Path.{refl, ap}
 use Prim.Native.Nat.{_+_}
 use native.Mathlib.Omega.{arith}
 use Rattle.channel.proofs.FrameLaws.{body-high}
@@ -10,17 +10,17 @@ use borrow.Author.Needs.{needs}
 use Rattle.item.proofs.Cursor.over.Statement.{statement}
 use Rattle.item.proofs.Cursor.over.Tie as tie
 
-enum-known-found : tie.Need-enum-known-found
-enum-known-found c = search needs
+enum-known-kind : tie.Need-enum-known-kind
+enum-known-kind c = search needs
 
 body-requires : tie.Need-body-requires
 body-requires c κs = search needs
 
 add-self : tie.Need-add-self
-add-self c = omega (arith, c .body .ensures, body-high (c .before .before .found .given .0 .0))
+add-self c = omega (arith, c .body .ensures, body-high (c .before .before .kind .given .0 .0))
 
 add-self-2 : tie.Need-add-self-2
-add-self-2 c = omega (arith, c .body .ensures, body-high (c .before .before .found .given .0 .0))
+add-self-2 c = omega (arith, c .body .ensures, body-high (c .before .before .kind .given .0 .0))
 
 after-requires : tie.Need-after-requires
 after-requires c κs = search needs
@@ -34,11 +34,11 @@ add-self-3 c = search needs
 returns : tie.Need-returns
 returns c =
     let a = c .before .before .before .before .before .before .args in
-    let the-found = c .before .before .before .found in
+    let the-kind = c .before .before .before .kind in
     let i = a .i in
-    let k = the-found .given .0 .0 in
+    let k = the-kind .given .0 .0 in
     let r : Cursor = record { position = i .start + c .before .body .result + i .length; context = c .after .result } in
-    over-frame (a .self) r i k (the-found .given .1) (ap (λ b. i .start + b + i .length) (c .before .body .ensures)) (c .after .ensures)
+    over-frame (a .self) r i k (the-kind .given .1) (ap (λ b. i .start + b + i .length) (c .before .body .ensures)) (c .after .ensures)
 
 returns-2 : tie.Need-returns-2
 returns-2 c =
@@ -51,7 +51,7 @@ pub over-spec : {M : Type 1} → statement M
 over-spec =
     tie.close
     (tie.spec
-    enum-known-found
+    enum-known-kind
     body-requires
     add-self
     add-self-2

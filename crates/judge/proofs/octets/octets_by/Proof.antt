@@ -1,6 +1,6 @@
 -- `judge::octets::octets_by` meets its contract.
 -- Assumes nothing.
-use Rattle.judge.proofs.HeldLaws.{built-from}
+use Rattle.judge.proofs.SoundLaws.{built-from}
 use borrow.Author.Needs.{needs}
 use Rattle.judge.proofs.octets.octets_by.Statement.{statement}
 use Rattle.judge.proofs.octets.octets_by.Tie as tie

@@ -1,4 +1,4 @@
--- `judge::held` meets its contract: the kind's plan is made before its octets are.
+-- `judge::record_by` meets its contract: the kind's plan is made before its octets are.
 -- Assumes nothing.
 use Prim.Native.Nat.{_+_, _≤_}
 use native.Mathlib.Omega.{arith}
@@ -6,10 +6,10 @@ use lib.ListN.{length}
 use Rattle.record.specs.Record.{dLength}
 use mathlib.Core.Path.{refl, sym, _∙_}
 use Rattle.dbits.proofs.PlanLaws.{made-of}
-use Rattle.judge.proofs.HeldLaws.{held-frame, held-short, held-unknown, plan-for, plan-none}
+use Rattle.judge.proofs.SoundLaws.{record-frame, record-short, record-unknown, plan-for, plan-none}
 use borrow.Author.Needs.{needs}
-use Rattle.judge.proofs.held.Statement.{statement}
-use Rattle.judge.proofs.held.Tie as tie
+use Rattle.judge.proofs.record_by.Statement.{statement}
+use Rattle.judge.proofs.record_by.Tie as tie
 
 shared-slice-read-kind-by : tie.Need-shared-slice-read-kind-by
 shared-slice-read-kind-by c = search needs
@@ -30,7 +30,7 @@ returns : tie.Need-returns
 returns c =
     let a = c .before .before .before .before .before .before .before .before .before .before .before .args in
     let kind = sym (c .before .before .before .before .k .given .1) ∙ c .before .before .before .before .before .before .kind-by .ensures in (
-      held-short (a .part .now) (c .before .before .before .before .k .given .0 .0) (c .before .before .size .result) (c .unsound .result) kind (c .before .before .size .ensures) (c .before .if1 .taken) (c .unsound .ensures),
+      record-short (a .part .now) (c .before .before .before .before .k .given .0 .0) (c .before .before .size .result) (c .unsound .result) kind (c .before .before .size .ensures) (c .before .if1 .taken) (c .unsound .ensures),
       plan-none (c .unsound .result) (a .table .now) (a .plan .now) (c .unsound .ensures) (c .before .before .before .before .before .before .before .before .before .before .before .pre .1),
     )
 
@@ -49,8 +49,8 @@ number-at-requires c κs = search needs
 number-at-requires-2 : tie.Need-number-at-requires-2
 number-at-requires-2 c κs = search needs
 
-shared-slice-read-t23 : tie.Need-shared-slice-read-t23
-shared-slice-read-t23 c = search needs
+shared-slice-read-t24 : tie.Need-shared-slice-read-t24
+shared-slice-read-t24 c = search needs
 
 enum-told : tie.Need-enum-told
 enum-told c = search needs
@@ -66,7 +66,7 @@ returns-2 c =
     let a = c .before .before .before .before .before .before .before .before .before .before .before .before .before .before .before .before .before .before .before .args in
     let k = c .before .before .before .before .before .before .before .before .before .before .before .before .k .given .0 .0 in
     let kind = sym (c .before .before .before .before .before .before .before .before .before .before .before .before .k .given .1) ∙ c .before .before .before .before .before .before .before .before .before .before .before .before .before .before .kind-by .ensures in (
-      held-frame (a .part .now) k (c .before .before .before .octets-by .result) (c .before .before .number-at .result) (c .before .number-at2 .result) _ (c .before .before .before .before .before .before .before .before .before .before .size .result) kind (c .before .before .before .before .before .before .before .before .before .before .size .ensures) (c .before .before .before .before .before .before .before .before .before .if1 .left)
+      record-frame (a .part .now) k (c .before .before .before .octets-by .result) (c .before .before .number-at .result) (c .before .number-at2 .result) _ (c .before .before .before .before .before .before .before .before .before .before .size .result) kind (c .before .before .before .before .before .before .before .before .before .before .size .ensures) (c .before .before .before .before .before .before .before .before .before .if1 .left)
           (c .before .before .before .octets-by .ensures) (c .before .before .number-at .ensures) (c .before .number-at2 .ensures) refl,
       plan-for (a .table .now) (a .plan .now) _ k (c .before .before .before .before .before .before .before .ready .ensures),
     )
@@ -74,12 +74,12 @@ returns-2 c =
 returns-3 : tie.Need-returns-3
 returns-3 c =
     let a = c .before .before .before .before .before .before .before .before .args in (
-      held-unknown (a .part .now) (c .unsound2 .result) (sym (c .before .before .before .kind-by .ensures) ∙ c .before .enum-told .given .1) (c .unsound2 .ensures),
+      record-unknown (a .part .now) (c .unsound2 .result) (sym (c .before .before .before .kind-by .ensures) ∙ c .before .enum-told .given .1) (c .unsound2 .ensures),
       plan-none (c .unsound2 .result) (a .table .now) (a .plan .now) (c .unsound2 .ensures) (c .before .before .before .before .before .before .before .before .pre .1),
     )
 
-pub held-spec : {M : Type 1} → statement M
-held-spec =
+pub record-by-spec : {M : Type 1} → statement M
+record-by-spec =
     tie.close
     (tie.spec
     shared-slice-read-kind-by
@@ -92,7 +92,7 @@ held-spec =
     octets-by-requires
     number-at-requires
     number-at-requires-2
-    shared-slice-read-t23
+    shared-slice-read-t24
     enum-told
     unsound-requires-2
     same-length
