@@ -1,14 +1,14 @@
 // The kind of a frame by its fixed bits and its coding.
 ghost use mathlib.Core.Path.{_≡_};
-ghost use mathlib.Core.Bool.{true};
+ghost use mathlib.Core.Bool.{true, not, _&&_};
 ghost use mathlib.Core.List.{[], _∷_, List};
 ghost use Prim.Native.Nat.{_<_, ℕ};
 ghost use Rattle.bits.specs.Bit.{bitAt, number};
 ghost use Rattle.channel.specs.Places.{elem, xcPlaces};
-ghost use Rattle.channel.specs.Coding.{bitsAt, c4Coded, xcCoded, speechXc, fixed};
+ghost use Rattle.channel.specs.Coding.{bitsAt, all, c4Coded, xcCoded, speechXc, fixed};
 ghost use Rattle.channel.specs.declared.Pattern.{Pattern as Fixed};
 ghost use Rattle.channel.specs.declared.Pattern.the-variants.{Hr, Low};
-ghost use Rattle.word.specs.Words.{Holds};
+ghost use Rattle.word.specs.Words.{Holds, FixedBy};
 ghost use Rattle.frame.specs.Found.{SyncOf, Coded, KindOf};
 use crate::places;
 use channel::Direction;
@@ -23,31 +23,22 @@ pub enum Sync {
     Nowhere,
 }
 
+// Whether the fixed bits of a pattern hold, by two frames: one has a one where a bit is fixed, the other has the fixed ones.
+fn holds_by(w: Words, mask: &[u8; 20], fixed: &[u8; 20]) -> bool
+    ensures { λ r. ⌜ ((o zeros ones : List ℕ) → Holds (bitAt o) (w .a) (w .b) (w .c) → FixedBy zeros ones (now (mask .entry)) (now (fixed .entry)) → r ≡ all (λ i. not (bitAt o i)) zeros && all (bitAt o) ones) ⌝ }
+{
+    word::fixed(w, word::words_of(mask), word::words_of(fixed))
+}
+
 // Whether the fixed bits of a pattern hold.
 fn holds(w: Words, t: Pattern) -> bool
     ensures { λ r. ⌜ ((o : List ℕ) → Holds (bitAt o) (w .a) (w .b) (w .c) → r ≡ fixed (bitAt o) t) ⌝ }
 {
     match t {
-        Pattern::Hr => word::fixed(
-            w,
-            word::words_of(&places::HR_MASK),
-            word::words_of(&places::HR_FIXED),
-        ),
-        Pattern::Low => word::fixed(
-            w,
-            word::words_of(&places::LOW_MASK),
-            word::words_of(&places::LOW_FIXED),
-        ),
-        Pattern::P670 => word::fixed(
-            w,
-            word::words_of(&places::P670_MASK),
-            word::words_of(&places::P670_FIXED),
-        ),
-        Pattern::P740 => word::fixed(
-            w,
-            word::words_of(&places::P740_MASK),
-            word::words_of(&places::P740_FIXED),
-        ),
+        Pattern::Hr => holds_by(w, &places::HR_MASK, &places::HR_FIXED),
+        Pattern::Low => holds_by(w, &places::LOW_MASK, &places::LOW_FIXED),
+        Pattern::P670 => holds_by(w, &places::P670_MASK, &places::P670_FIXED),
+        Pattern::P740 => holds_by(w, &places::P740_MASK, &places::P740_FIXED),
     }
 }
 

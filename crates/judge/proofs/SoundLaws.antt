@@ -274,6 +274,9 @@ pub unsound-by : (d : Direction) (part : List ℕ) (f : Frame) (b : Bool) → So
 unsound-by d part f b s t = subst (SoundBy d part f) t s
 
 -- no second record fits, in any of its numbers
+pub record-one : (part : List ℕ) (r s : Record) → RecordBy part r → RecordBy part s → r ≡ s
+record-one part r s a b = a .is ∙ sym (b .is)
+
 pub judged-one : (d : Direction) (part : List ℕ) (r s : Record) → Judged d part r → Judged d part s → r ≡ s
 judged-one d part r s a b = go (r .kind) (s .kind) a b
   where
