@@ -1,14 +1,15 @@
--- The laws of a reading at the 8 kbit/s channel: for each capture, direction and cursor not beyond n exactly one list obeys the rules.
+-- The laws of a reading at the 8 kbit/s channel: for each capture and cursor not beyond n exactly one list obeys the rules.
 -- Assumes nothing.
 use mathlib.Core.Path.{_≡_}
-use mathlib.Core.List.{List, [], _∷_, _++_}
-use Prim.Native.Nat.{ℕ, _≤_}
+use mathlib.Core.List.{List, [], _++_}
+use Prim.Native.Nat.{_≤_}
 use Rattle.reading.specs.Reading.{Cursor, Item, overAll, Stretch, Reading, Pages, joined}
 use Rattle.reading.proofs.ReadingLaws as laws
+use Rattle.channel.specs.Verdict.{Context}
 use Rattle.channel.specs.Frames.{Capture, Frame, rules}
 use Rattle.channel.proofs.FrameLaws.{sound}
 
-module _ (w : Capture) (c : Cursor ℕ) where
+module _ (w : Capture) (c : Cursor Context) where
   -- at most one
   pub unique : (xs ys : List (Item Frame)) → Reading rules w c xs → Reading rules w c ys → xs ≡ ys
   unique = laws.unique rules w (sound w) c

@@ -15,7 +15,7 @@ use Rattle.channel.specs.Places.{dPlaces}
 use Rattle.channel.specs.Coding.{Word, wordAt, bitsAt, all}
 use Rattle.channel.specs.Crc.{right, leaves111}
 use Rattle.channel.specs.Checks.{checks, checksLower}
-use Rattle.channel.specs.Verdict.{modeOf, wrongs, verdictOf, startsBy, starts, follows, allowed, afterOf}
+use Rattle.channel.specs.Verdict.{Context, modeOf, wrongs, verdictOf, startsBy, starts, follows, allowed, afterOf}
 use Rattle.channel.specs.Control.{control, extended}
 use Rattle.channel.proofs.BoolLaws.{and-l, and-r}
 
@@ -51,7 +51,7 @@ lower-inside (suc (suc (suc zero))) = refl
 lower-inside (suc (suc (suc (suc m)))) = refl
 
 -- the context that is left
-pub after-cut : (x : ℕ) (g : Word) (k : Kind) → afterOf x (wordAt g 0 (bodyOf k)) k ≡ afterOf x g k
+pub after-cut : (x : Context) (g : Word) (k : Kind) → afterOf x (wordAt g 0 (bodyOf k)) k ≡ afterOf x g k
 after-cut x g Speech = refl
 after-cut x g Data = refl
 after-cut x g Om = refl
@@ -62,7 +62,7 @@ after-cut x g Amr670 = refl
 after-cut x g Amr740 = refl
 
 -- the verdict
-pub verdict-cut : (x : ℕ) (g : Word) (k : Kind) → verdictOf x (wordAt g 0 (bodyOf k)) k ≡ verdictOf x g k
+pub verdict-cut : (x : Context) (g : Word) (k : Kind) → verdictOf x (wordAt g 0 (bodyOf k)) k ≡ verdictOf x g k
 unfolding verdictOf checks dPlaces
 verdict-cut x g Speech = ap (λ (n : ℕ). 128 * 0 + 16 * 0 + n) (wrongs-cut g 158 (checks 0 Speech) refl)
 verdict-cut x g Data = refl
@@ -109,7 +109,7 @@ d-cut g Amr670 = bits-cut g 160 (dPlaces Amr670) refl
 d-cut g Amr740 = bits-cut g 160 (dPlaces Amr740) refl
 
 -- rule 2, by the verdict that the code has
-pub allowed-by : (x : ℕ) (g : Word) (k : Kind) (v : ℕ) → v ≡ verdictOf x g k → cond (eqb x 0) (startsBy k v) (follows x k) ≡ allowed x (wordAt g 0 (bodyOf k)) k
+pub allowed-by : (x : Context) (g : Word) (k : Kind) (v : ℕ) → v ≡ verdictOf x g k → cond (eqb x 0) (startsBy k v) (follows x k) ≡ allowed x (wordAt g 0 (bodyOf k)) k
 unfolding starts
 allowed-by x g k v e = go (eqb x 0) refl
   where

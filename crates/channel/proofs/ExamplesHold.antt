@@ -10,7 +10,7 @@ use Rattle.channel.specs.Places.{dPlaces}
 use Rattle.channel.specs.Checks.{checks}
 use Rattle.channel.specs.Verdict.{verdictOf, starts}
 use Rattle.channel.specs.Control.{control, extended}
-use Rattle.channel.specs.Frames.{captureOf, rules, beginning}
+use Rattle.channel.specs.Frames.{termsOf, captureOf, rules, beginning}
 use Rattle.channel.specs.Examples.{Question, crc, parity, reading, passing, oneBit, threeBits, line, Holds, Example, AllHold, table}
 use Rattle.channel.proofs.FrameLaws.{lookAt, sound}
 
@@ -18,12 +18,12 @@ use Rattle.channel.proofs.FrameLaws.{lookAt, sound}
 abbrev computed : Question → List (List ℕ)
 computed (crc bs) = passing leaves111 bs threeBits
 computed (parity bs) = passing odd bs oneBit
-computed (reading s n d) = map line (read rules (captureOf s n d) (sound (captureOf s n d)) beginning)
+computed (reading s n d) = map line (read rules (captureOf s n (termsOf d)) (sound (captureOf s n (termsOf d))) beginning)
 
 holds : (q : Question) (answer : List (List ℕ)) → computed q ≡ answer → Holds q answer
 holds (crc bs) answer h = h
 holds (parity bs) answer h = h
-holds (reading s n d) answer h = (read rules (captureOf s n d) (sound (captureOf s n d)) beginning, exists rules (captureOf s n d) (sound (captureOf s n d)) beginning zero-le, h)
+holds (reading s n d) answer h = (read rules (captureOf s n (termsOf d)) (sound (captureOf s n (termsOf d))) beginning, exists rules (captureOf s n (termsOf d)) (sound (captureOf s n (termsOf d))) beginning zero-le, h)
 
 -- each row is as computed
 abbrev AllComputed : List Example → Type 0

@@ -17,7 +17,7 @@ use Rattle.channel.specs.declared.Kind.{Kind}
 use Rattle.channel.specs.declared.Kind.the-variants.{Speech, Data, Om, Configuration, NoSpeech, Lower, Amr670, Amr740}
 use Rattle.channel.specs.Kinds.{kinds, kindNo, patternOf, bodyOf, leastTail}
 use Rattle.channel.specs.Coding.{Word, wordAt, fixed, c1to3, c4to5, hrCoded, coded, isBody}
-use Rattle.channel.specs.Verdict.{verdictOf, starts, allowed}
+use Rattle.channel.specs.Verdict.{Context, verdictOf, starts, allowed}
 use Rattle.channel.specs.Frames.{Capture, Frame, Stands, Due, rules}
 use Rattle.channel.proofs.BoolLaws.{ands, and-both, zero-at, one-at}
 use Rattle.channel.proofs.TailLaws.{tailOf, tail-whole, tail-one}
@@ -94,11 +94,11 @@ frameAt w x p k = record { kind = k; start = p; body = bodyAt w p k; tail = tail
 abbrev pub dueAt : Capture → ℕ → ℕ → Kind → Bool
 dueAt w x p k =
     leb (p + bodyOf k) (w .n)
-    && isBody (w .direction) (bodyAt w p k) k
-    && leb (leastTail (w .direction) k) (tailAt w p k)
+    && isBody (w .terms .direction) (bodyAt w p k) k
+    && leb (leastTail (w .terms .direction) k) (tailAt w p k)
     && allowed x (bodyAt w p k) k
 
-module _ (w : Capture) (x p : ℕ) where
+module _ (w : Capture) (x : Context) (p : ℕ) where
   -- what the test finds is due
   pub test-due : (k : Kind) → dueAt w x p k ≡ true → Due w x p (frameAt w x p k)
   test-due k h =
@@ -134,8 +134,8 @@ module _ (w : Capture) (x p : ℕ) where
       passes =
           and-both _ _
           (and-both _ _
-          (and-both _ _ (le-leb (p + bodyOf (f .kind)) (w .n) (s .before)) (subst (λ (g : Word). isBody (w .direction) g (f .kind) ≡ true) (s .bits) (s .holds)))
-          (le-leb (leastTail (w .direction) (f .kind)) (tailAt w p (f .kind)) (omega (arith, t, s .least))))
+          (and-both _ _ (le-leb (p + bodyOf (f .kind)) (w .n) (s .before)) (subst (λ (g : Word). isBody (w .terms .direction) g (f .kind) ≡ true) (s .bits) (s .holds)))
+          (le-leb (leastTail (w .terms .direction) (f .kind)) (tailAt w p (f .kind)) (omega (arith, t, s .least))))
           (subst (λ (g : Word). allowed x g (f .kind) ≡ true) (s .bits) (h .allows))
 
       same : frameAt w x p (f .kind) ≡ f
@@ -185,10 +185,10 @@ none-passes t h Lower = h .1 .1 .1 .1 .1 .0
 none-passes t h Amr670 = h .1 .1 .1 .1 .1 .1 .0
 none-passes t h Amr740 = h .1 .1 .1 .1 .1 .1 .1 .0
 
-module _ (w : Capture) (x p : ℕ) where
+module _ (w : Capture) (x : Context) (p : ℕ) where
   -- two kinds that are due at a place are one
   due-one : (j k : Kind) → dueAt w x p j ≡ true → dueAt w x p k ≡ true → j ≡ k
-  due-one j k a b = one-kind (w .direction) (w .bits) p j k (search ands) (search ands)
+  due-one j k a b = one-kind (w .terms .direction) (w .bits) p j k (search ands) (search ands)
 
   pub look-due : (f : Frame) → lookAt w x p ≡ some f → Due w x p f
   unfolding lookAt
@@ -238,7 +238,7 @@ unfolding starts
 no-740 g h = let z : _≡_ {A = ℕ} 0 1 = cc in omega arith
 
 -- what starts a run is allowed in every context
-pub starts-allowed : (x : ℕ) (g : Word) (k : Kind) → allowed 0 g k ≡ true → allowed x g k ≡ true
+pub starts-allowed : (x : Context) (g : Word) (k : Kind) → allowed 0 g k ≡ true → allowed x g k ≡ true
 starts-allowed x g k h = go (eqb x 0) refl k h
   where
     go : (b : Bool) → eqb x 0 ≡ b → (k : Kind) → starts g k ≡ true → cond b (starts g k) (not b && cond (eqb (kindNo k) 8) (leb 2 x) true) ≡ true

@@ -1,6 +1,6 @@
 -- Bits from n on are never looked at (document 01, "What the library covers"): captures that agree before n have the same reading.
 -- Assumes nothing.
-use mathlib.Core.Path.{_≡_, refl, sym, _∙_, ap, subst, fun-ext}
+use mathlib.Core.Path.{_≡_, refl, sym, _∙_, fun-ext}
 use mathlib.Core.Logic.{_⊎_, inl, inr, by-cases}
 use mathlib.Core.Bool.{Bool, true, false, _&&_}
 use mathlib.Core.List.{List, [], _∷_, _++_}
@@ -9,10 +9,11 @@ use native.Mathlib.Omega.{arith}
 use native.Mathlib.Decide.{decLt}
 use borrow.Author.Tests.{ltb-true}
 use lib.Dec.{ltb}
-use Rattle.reading.specs.Reading.{Cursor, Item, gap, frame, Gap, Obeys, over, Stretch, Reading, Starts, Leading}
-use Rattle.channel.specs.declared.Direction.{Direction}
+use Rattle.reading.specs.Reading.{Cursor, Item, gap, frame, Obeys, over, Stretch, Reading, Starts, Leading}
+use Rattle.channel.specs.declared.Terms.{Terms}
 use Rattle.channel.specs.Kinds.{bodyOf}
-use Rattle.channel.specs.Coding.{Word, wordAt}
+use Rattle.channel.specs.Coding.{wordAt}
+use Rattle.channel.specs.Verdict.{Context}
 use Rattle.channel.specs.Frames.{Capture, Frame, Tail, Due, rules}
 
 -- two captures of n bits agree on each of them
@@ -22,9 +23,9 @@ Agree n f g = (i : ℕ) → i < n → f i ≡ g i
 pub agree-back : (n : ℕ) (f g : ℕ → Bool) → Agree n f g → Agree n g f
 agree-back n f g h i l = sym (h i l)
 
-module _ (n : ℕ) (d : Direction) where
+module _ (n : ℕ) (t : Terms) where
   abbrev of : (ℕ → Bool) → Capture
-  of f = record { bits = f; n = n; direction = d }
+  of f = record { bits = f; n = n; terms = t }
 
   module _ (f g : ℕ → Bool) (same : Agree n f g) where
     word-same : (p b : ℕ) → p + b ≤ n → wordAt f p b ≡ wordAt g p b
@@ -47,7 +48,7 @@ module _ (n : ℕ) (d : Direction) where
         go l (inr e) = inr (sym (same (q + t) l) ∙ e)
 
     -- the same frames are due
-    pub due-same : (x p : ℕ) (h : Frame) → Due (of f) x p h → Due (of g) x p h
+    pub due-same : (x : Context) (p : ℕ) (h : Frame) → Due (of f) x p h → Due (of g) x p h
     due-same x p h e =
         record {
           stands =
@@ -64,7 +65,7 @@ module _ (n : ℕ) (d : Direction) where
         }
 
   module _ (f g : ℕ → Bool) (same : Agree n f g) where
-    obeys-same : (c : Cursor ℕ) (x : Item Frame) → Obeys rules (of f) c x → Obeys rules (of g) c x
+    obeys-same : (c : Cursor Context) (x : Item Frame) → Obeys rules (of f) c x → Obeys rules (of g) c x
     obeys-same c (frame h) o = due-same f g same (c .context) (c .position) h o
     obeys-same c (gap s l) o =
         record {
@@ -80,13 +81,13 @@ module _ (n : ℕ) (d : Direction) where
         stop (inl e) = inl e
         stop (inr e) = inr (e .0, due-same f g same 0 (s + l) (e .0) (e .1))
 
-    stretch-same : (c : Cursor ℕ) (xs : List (Item Frame)) → Stretch rules (of f) c xs → Stretch rules (of g) c xs
+    stretch-same : (c : Cursor Context) (xs : List (Item Frame)) → Stretch rules (of f) c xs → Stretch rules (of g) c xs
     stretch-same c [] s = tt
     stretch-same c (x ∷ xs) s = (obeys-same c x (s .0), stretch-same (over rules c x) xs (s .1))
 
     -- a reading of the one is a reading of the other
-    pub reading-same : (c : Cursor ℕ) (xs : List (Item Frame)) → Reading rules (of f) c xs → Reading rules (of g) c xs
+    pub reading-same : (c : Cursor Context) (xs : List (Item Frame)) → Reading rules (of f) c xs → Reading rules (of g) c xs
     reading-same c xs r = (stretch-same c xs (r .0), r .1)
 
-    pub leading-same : (c : Cursor ℕ) (xs : List (Item Frame)) → Leading rules (of f) c xs → Leading rules (of g) c xs
+    pub leading-same : (c : Cursor Context) (xs : List (Item Frame)) → Leading rules (of f) c xs → Leading rules (of g) c xs
     leading-same c xs (ys, r) = (ys, reading-same c (xs ++ ys) r)

@@ -13,7 +13,7 @@ use Rattle.channel.specs.Kinds.{kindNo}
 use Rattle.channel.specs.Coding.{odd}
 use Rattle.channel.specs.Crc.{leaves111}
 use Rattle.channel.specs.Control.{control, extended}
-use Rattle.channel.specs.Frames.{Frame, captureOf, rules, beginning}
+use Rattle.channel.specs.Frames.{Frame, termsOf, captureOf, rules, beginning}
 
 abbrev pub H : List ℕ
 H = 0x00 ∷ 0x88 ∷ 0x44 ∷ replicate 6 0x80 ++ (0xF0 ∷ replicate 9 0x80) ++ (0xBF ∷ [])
@@ -54,7 +54,7 @@ line (frame f) = kindNo (f .kind) ∷ f .start ∷ f .tail ∷ f .verdict ∷ co
 abbrev pub Holds : Question → List (List ℕ) → Type 0
 Holds (crc bs) answer = passing leaves111 bs threeBits ≡ answer
 Holds (parity bs) answer = passing odd bs oneBit ≡ answer
-Holds (reading s n d) answer = (xs : List (Item Frame)) × Reading rules (captureOf s n d) beginning xs × (map line xs ≡ answer)
+Holds (reading s n d) answer = (xs : List (Item Frame)) × Reading rules (captureOf s n (termsOf d)) beginning xs × (map line xs ≡ answer)
 
 pub record Example : Type 0 where
   pub number : ℕ

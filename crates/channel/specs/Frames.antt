@@ -8,20 +8,25 @@ use Prim.Native.Nat.{ℕ, _+_, _≤_, _<_}
 use Rattle.reading.specs.Reading.{Rules, Cursor}
 use Rattle.bits.specs.Bit.{bitAt}
 use Rattle.channel.specs.declared.Direction.{Direction}
+use Rattle.channel.specs.declared.Terms.{Terms}
 use Rattle.channel.specs.declared.Kind.{Kind}
 use Rattle.channel.specs.Kinds.{bodyOf, leastTail}
 use Rattle.channel.specs.Coding.{Word, wordAt, isBody}
-use Rattle.channel.specs.Verdict.{verdictOf, allowed, afterOf}
+use Rattle.channel.specs.Verdict.{Context, verdictOf, allowed, afterOf}
 
--- a capture: its bits, how many they are, and its direction
+-- the terms of a direction
+abbrev pub termsOf : Direction → Terms
+termsOf d = record { direction = d }
+
+-- a capture: its bits, how many they are, and its terms
 pub record Capture : Type 0 where
   pub bits : ℕ → Bool
   pub n : ℕ
-  pub direction : Direction
+  pub terms : Terms
 
 -- the first n bits of some bytes
-abbrev pub captureOf : List ℕ → ℕ → Direction → Capture
-captureOf s n d = record { bits = bitAt s; n = n; direction = d }
+abbrev pub captureOf : List ℕ → ℕ → Terms → Capture
+captureOf s n t = record { bits = bitAt s; n = n; terms = t }
 
 -- a frame: its kind, its place, its body, the length of its tail, and its verdict byte
 pub record Frame : Type 0 where
@@ -42,12 +47,12 @@ pub record Stands (w : Capture) (p : ℕ) (f : Frame) : Type 0 where
   pub at : f .start ≡ p
   pub before : p + bodyOf (f .kind) ≤ w .n
   pub bits : f .body ≡ wordAt (w .bits) p (bodyOf (f .kind))
-  pub holds : isBody (w .direction) (f .body) (f .kind) ≡ true
+  pub holds : isBody (w .terms .direction) (f .body) (f .kind) ≡ true
   pub tail : Tail w (p + bodyOf (f .kind)) (f .tail)
-  pub least : leastTail (w .direction) (f .kind) ≤ f .tail
+  pub least : leastTail (w .terms .direction) (f .kind) ≤ f .tail
 
 -- rule 2: a frame stands at p, it starts a run in context 0 or follows in any other, and its verdict is the one due in that context
-pub record Due (w : Capture) (x p : ℕ) (f : Frame) : Type 0 where
+pub record Due (w : Capture) (x : Context) (p : ℕ) (f : Frame) : Type 0 where
   pub stands : Stands w p f
   pub allows : allowed x (f .body) (f .kind) ≡ true
   pub judged : f .verdict ≡ verdictOf x (f .body) (f .kind)
@@ -57,9 +62,9 @@ abbrev pub behind : Frame → ℕ
 behind f = f .start + bodyOf (f .kind) + f .tail
 
 -- the eight kinds in the reading rules: context 0 is searching
-abbrev pub rules : Rules Capture ℕ Frame
+abbrev pub rules : Rules Capture Context Frame
 rules = record { end = λ w. w .n; searching = 0; Due = Due; behind = behind; after = λ x f. afterOf x (f .body) (f .kind) }
 
 -- the beginning of a capture: bit 0, context 0
-abbrev pub beginning : Cursor ℕ
+abbrev pub beginning : Cursor Context
 beginning = record { position = 0; context = 0 }

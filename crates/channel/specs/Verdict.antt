@@ -14,20 +14,24 @@ use Rattle.channel.specs.Coding.{Word, c1to3}
 use Rattle.channel.specs.Crc.{right}
 use Rattle.channel.specs.Checks.{checks}
 
+-- a context: 0 searching; 1 after HR; 2 after AMR; 3, 4, 5 after a kind 6 whose own C bits named 4,75, 5,15, 5,90
+abbrev pub Context : Type 0
+Context = ℕ
+
 -- the mode that a kind 6's own C bits name: C1..C3 of 000, 001, 010 name 4,75 (1), 5,15 (2), 5,90 (3); any other none (0)
 abbrev pub ownMode : Word → ℕ
 ownMode g = getD (1 ∷ 2 ∷ 3 ∷ []) (c1to3 g Low) 0
 
 -- the mode that a context holds: 3, 4, 5 stand after a kind 6 whose own C bits named 4,75, 5,15, 5,90; 0 to 2 hold none
-abbrev pub contextMode : ℕ → ℕ
+abbrev pub contextMode : Context → ℕ
 contextMode x = getD (0 ∷ 0 ∷ 0 ∷ 1 ∷ 2 ∷ 3 ∷ []) x 0
 
 -- the mode of a body in a context: of a kind 6 its own, else the context's, or none; other kinds have none
-abbrev pub modeOf : ℕ → Word → Kind → ℕ
+abbrev pub modeOf : Context → Word → Kind → ℕ
 modeOf x g k = cond (eqb (kindNo k) 6) (cond (eqb (ownMode g) 0) (contextMode x) (ownMode g)) 0
 
 -- unchecked: kind 5 always, kind 6 without mode
-abbrev pub unchecked : ℕ → Word → Kind → Bool
+abbrev pub unchecked : Context → Word → Kind → Bool
 unchecked x g k = cond (eqb (kindNo k) 5) true (cond (eqb (kindNo k) 6) (eqb (modeOf x g k) 0) false)
 
 -- bits 3..0: set where CRC4..CRC1 is wrong
@@ -36,7 +40,7 @@ wrongs g [] = 0
 wrongs g (places ∷ rest) = toN (not (right g places)) + 2 * wrongs g rest
 
 -- the verdict byte of a body in a context: bit 7 unchecked, bits 5..4 the mode of a kind 6, bits 3..0 the wrong CRCs
-unfoldable pub verdictOf : ℕ → Word → Kind → ℕ
+unfoldable pub verdictOf : Context → Word → Kind → ℕ
 verdictOf x g k = 128 * toN (unchecked x g k) + 16 * modeOf x g k + wrongs g (checks (modeOf x g k) k)
 
 -- a kind starts a run with a verdict of context 0: it is not kind 8, each of its CRCs is right (bits 3..0), and it is not an unchecked kind 6 (bit 7)
@@ -48,15 +52,15 @@ unfoldable pub starts : Word → Kind → Bool
 starts g k = startsBy k (verdictOf 0 g k)
 
 -- a kind follows in a context: the context isn't 0 and, for kind 8, is 2 or more
-abbrev pub follows : ℕ → Kind → Bool
+abbrev pub follows : Context → Kind → Bool
 follows x k = not (eqb x 0) && cond (eqb (kindNo k) 8) (leb 2 x) true
 
 -- rule 2: in context 0 a frame that starts a run, in any other a frame that follows
-abbrev pub allowed : ℕ → Word → Kind → Bool
+abbrev pub allowed : Context → Word → Kind → Bool
 allowed x g k = cond (eqb x 0) (starts g k) (follows x k)
 
 -- the context that a frame leaves: 1 after HR, 2 after AMR, 3, 4, 5 after a kind 6 whose own C bits named 4,75, 5,15, 5,90
-abbrev pub afterOf : ℕ → Word → Kind → ℕ
+abbrev pub afterOf : Context → Word → Kind → Context
 afterOf x g Speech = 1
 afterOf x g Data = 1
 afterOf x g Om = 1

@@ -7,6 +7,12 @@ pub enum Direction {
     Downlink,
 }
 
+// What is agreed of a capture besides its bits. It is passed by value wherever the bits are read or written, so that a term more is a change here and
+// where that term matters.
+pub struct Terms {
+    pub direction: Direction,
+}
+
 // The synchronisation patterns (5.2.1 to 5.2.3).
 pub enum Pattern {
     Hr,
