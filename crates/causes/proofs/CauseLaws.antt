@@ -19,6 +19,7 @@ use Rattle.bits.proofs.CountLaws.{getD-map-count}
 use Rattle.word.specs.Below.{Below}
 use Rattle.put.proofs.PutLaws.{body-bit, body-length}
 use Rattle.channel.specs.declared.Direction.{Direction}
+use Rattle.channel.specs.declared.Terms.{Terms}
 use Rattle.channel.specs.declared.Pattern.the-variants.{Hr}
 use Rattle.channel.specs.declared.Kind.{Kind}
 use Rattle.channel.specs.declared.Kind.the-variants.{Speech, Data, Om, Configuration, NoSpeech, Lower, Amr670, Amr740}
@@ -207,7 +208,10 @@ module _ (bytes : List ℕ) where
   c-odd : odd (bitsAt (bitAt bytes) (upto 72 75) ++ (parity 72 75 ∷ [])) ≡ true
   c-odd = parity-odd (bitsAt (bitAt bytes) (upto 72 75))
 
-  module _ (d : Direction) where
+  module _ (terms : Terms) where
+    abbrev d : Direction
+    d = terms .direction
+
     -- it has the bits of control, of extended and the D bits, and is a body where control and extended are codings
     body-by : (k : Kind) → Lies k (controlPlaces k) 72 (length (controlPlaces k)) × Lies k (extendedPlaces k) 80 (length (extendedPlaces k)) × Lies k (dPlaces k) 96 (dCount k)
         × (controlCoded d bytes k ≡ true → extendedCoded d bytes k ≡ true → isBody d (bodyBy k) k ≡ true)
@@ -276,7 +280,7 @@ module _ (bytes : List ℕ) where
           let f = drop-bytes bytes 12 0 (omega (arith, long)) in
           cc (control-cut (bodyBy k) k, extended-cut (bodyBy k) k, control-is, extended-is)
 
-      sound-by : SoundAs d bytes frameBy (drop (dLength k) (drop 12 bytes))
+      sound-by : SoundAs terms bytes frameBy (drop (dLength k) (drop 12 bytes))
       sound-by =
           record {
             fit =
@@ -291,32 +295,32 @@ module _ (bytes : List ℕ) where
           }
 
     -- a record of a frame has no case
-    no-case : (f : Frame) (rest : List ℕ) → SoundAs d bytes f rest → faulty d bytes ≡ false
+    no-case : (f : Frame) (rest : List ℕ) → SoundAs terms bytes f rest → faulty d bytes ≡ false
     unfolding control
     no-case f rest s =
         let k = f .kind in
         let g = f .body in
-        let c = top-carried g (controlPlaces k) 9 (front-control d bytes f rest s) in
-        let x = top-carried g (extendedPlaces k) 10 (sym (extended-top g k (body-framed d g k (s .fit .holds))) ∙ front-extended d bytes f rest s) in
-        let codings = by-body d g k (and-r (fixed g (patternOf k)) (coded d g k) (s .fit .holds)) (front-extended d bytes f rest s) c x in
-        ap (caseOf d bytes) (front-kind d bytes f rest s)
+        let c = top-carried g (controlPlaces k) 9 (front-control terms bytes f rest s) in
+        let x = top-carried g (extendedPlaces k) 10 (sym (extended-top g k (body-framed d g k (s .fit .holds))) ∙ front-extended terms bytes f rest s) in
+        let codings = by-body d g k (and-r (fixed g (patternOf k)) (coded d g k) (s .fit .holds)) (front-extended terms bytes f rest s) c x in
+        ap (caseOf d bytes) (front-kind terms bytes f rest s)
         ∙ or-none _ _
         (or-none _ _
         (or-none _ _
-        (or-none _ _ (le-ltb (length bytes) (12 + dLength k) (front-long d bytes f rest s))
+        (or-none _ _ (le-ltb (length bytes) (12 + dLength k) (front-long terms bytes f rest s))
         (or-none _ _
         (or-none _ _ (carried-clear g (controlPlaces k) 72 (length (controlPlaces k)) 8 refl c)
         (carried-clear g (extendedPlaces k) 80 (length (extendedPlaces k)) 8 refl x))
-        (carried-clear g (dPlaces k) 96 (dCount k) (8 * dLength k) (d-length k) (d-carried g k (front-d d bytes f rest s)))))
+        (carried-clear g (dPlaces k) 96 (dCount k) (8 * dLength k) (d-length k) (d-carried g k (front-d terms bytes f rest s)))))
         (ap not (codings .0)))
         (ap not (codings .1)))
-        (le-ltb (numberAt bytes 5) (leastTail d k) (omega (arith, front-tail d bytes f rest s, s .least)))
+        (le-ltb (numberAt bytes 5) (leastTail d k) (omega (arith, front-tail terms bytes f rest s, s .least)))
 
 -- the cases are exactly those of number 5: a record without one is the sound record of a frame, and a record with one is unsound
-pub exactly : (d : Direction) (bytes : List ℕ) → Below 256 bytes
-    → (faulty d bytes ≡ false → (f : Frame) × (rest : List ℕ) × SoundAs d bytes f rest) × (faulty d bytes ≡ true → Unsound d bytes)
-exactly d bytes small = (by (kindBy (getD bytes 0 0)) refl, λ h f rest s. never (sym h ∙ no-case bytes d f rest s))
+pub exactly : (t : Terms) (bytes : List ℕ) → Below 256 bytes
+    → (faulty (t .direction) bytes ≡ false → (f : Frame) × (rest : List ℕ) × SoundAs t bytes f rest) × (faulty (t .direction) bytes ≡ true → Unsound t bytes)
+exactly t bytes small = (by (kindBy (getD bytes 0 0)) refl, λ h f rest s. never (sym h ∙ no-case bytes t f rest s))
   where
-    by : (found : Found) → kindBy (getD bytes 0 0) ≡ found → caseOf d bytes found ≡ false → (f : Frame) × (rest : List ℕ) × SoundAs d bytes f rest
-    by (Is k) e h = (frameBy bytes d small k e h, drop (dLength k) (drop 12 bytes), sound-by bytes d small k e h)
+    by : (found : Found) → kindBy (getD bytes 0 0) ≡ found → caseOf (t .direction) bytes found ≡ false → (f : Frame) × (rest : List ℕ) × SoundAs t bytes f rest
+    by (Is k) e h = (frameBy bytes t small k e h, drop (dLength k) (drop 12 bytes), sound-by bytes t small k e h)
     by Nothing e h = absurd (never h)

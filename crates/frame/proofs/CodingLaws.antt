@@ -10,6 +10,7 @@ use lib.Dec.{T, eqb, ltb, ltb→lt}
 use Rattle.bits.specs.Bit.{toN, number, count}
 use Rattle.bits.proofs.BitLaws.{toN-lt, toN-one}
 use Rattle.channel.specs.declared.Direction.{Direction}
+use Rattle.channel.specs.declared.Terms.{Terms}
 use Rattle.channel.specs.declared.Direction.the-variants.{Uplink, Downlink}
 use Rattle.channel.specs.declared.Pattern.{Pattern}
 use Rattle.channel.specs.declared.Pattern.the-variants.{Hr, Low, P670, P740}
@@ -222,23 +223,23 @@ module _ (d : Direction) (g : Word) (c : ℕ) (packed : c ≡ number (bitsAt g (
   low-nothing h e Amr740 p = cc
 
 -- a kind of the pattern that holds is the kind
-pub kind-in : (d : Direction) (g : Word) (t : Pattern) (r : Found) → fixed g t ≡ true → Coded d g t r → KindOf d g r
-kind-in d g t (Is k) f h = rw (h .0, f, h .1)
-kind-in d g t Nothing f h = λ k. go k (fixed g (patternOf k)) refl
+pub kind-in : (t : Terms) (g : Word) (p : Pattern) (r : Found) → fixed g p ≡ true → Coded (t .direction) g p r → KindOf t g r
+kind-in t g p (Is k) f h = rw (h .0, f, h .1)
+kind-in t g p Nothing f h = λ k. go k (fixed g (patternOf k)) refl
   where
-    go : (k : Kind) (b : Bool) → fixed g (patternOf k) ≡ b → b && coded d g k ≡ false
-    go k true e = h k (sym (one-pattern g (patternOf k) e) ∙ one-pattern g t f)
+    go : (k : Kind) (b : Bool) → fixed g (patternOf k) ≡ b → b && coded (t .direction) g k ≡ false
+    go k true e = h k (sym (one-pattern g (patternOf k) e) ∙ one-pattern g p f)
     go k false e = refl
 
-pub kind-nowhere : (d : Direction) (g : Word) → ((t : Pattern) → fixed g t ≡ false) → KindOf d g Nothing
-kind-nowhere d g h k = rw (h (patternOf k))
+pub kind-nowhere : (t : Terms) (g : Word) → ((p : Pattern) → fixed g p ≡ false) → KindOf t g Nothing
+kind-nowhere t g h k = rw (h (patternOf k))
 
 -- no second answer fits
-pub kind-one : (d : Direction) (g : Word) (r s : Found) → KindOf d g r → KindOf d g s → r ≡ s
-kind-one d g (Is j) (Is k) a b = ap Is (one-body d g j k a b)
-kind-one d g (Is j) Nothing a b = absurd (never (sym a ∙ b j))
-kind-one d g Nothing (Is k) a b = absurd (never (sym b ∙ a k))
-kind-one d g Nothing Nothing a b = refl
+pub kind-one : (t : Terms) (g : Word) (r s : Found) → KindOf t g r → KindOf t g s → r ≡ s
+kind-one t g (Is j) (Is k) a b = ap Is (one-body (t .direction) g j k a b)
+kind-one t g (Is j) Nothing a b = absurd (never (sym a ∙ b j))
+kind-one t g Nothing (Is k) a b = absurd (never (sym b ∙ a k))
+kind-one t g Nothing Nothing a b = refl
 
 pub one-elem : (v w : ℕ) → eqb v w ≡ elem v (w ∷ [])
 one-elem v w = go (eqb v w)

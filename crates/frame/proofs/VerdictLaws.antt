@@ -15,7 +15,7 @@ use Rattle.channel.specs.declared.Kind.the-variants.{Lower}
 use Rattle.channel.specs.Coding.{Word, c1to3}
 use Rattle.channel.specs.Crc.{right}
 use Rattle.channel.specs.Checks.{checks, checksLower}
-use Rattle.channel.specs.Verdict.{ownMode, contextMode, modeOf, unchecked, wrongs, verdictOf}
+use Rattle.channel.specs.Verdict.{Context, ownMode, contextMode, modeOf, unchecked, wrongs, verdictOf}
 
 -- the mode that C1..C3 name, by their number c
 module _ (g : Word) (c : ℕ) (read : c ≡ c1to3 g Low) where
@@ -29,7 +29,7 @@ module _ (g : Word) (c : ℕ) (read : c ≡ c1to3 g Low) where
       subst (λ (n : ℕ). _≡_ {A = ℕ} 0 (getD (1 ∷ 2 ∷ 3 ∷ []) n 0)) read (sym e)
 
 -- the contexts that hold no mode
-pub context-none : (x : ℕ) → (x ≡ 3 → ⊥) → (x ≡ 4 → ⊥) → (x ≡ 5 → ⊥) → 0 ≡ contextMode x
+pub context-none : (x : Context) → (x ≡ 3 → ⊥) → (x ≡ 4 → ⊥) → (x ≡ 5 → ⊥) → 0 ≡ contextMode x
 context-none zero a b c = refl
 context-none (suc zero) a b c = refl
 context-none (suc (suc zero)) a b c = refl
@@ -48,17 +48,17 @@ named-le (suc (suc (suc i))) = omega arith
 pub own-le : (g : Word) → ownMode g ≤ 3
 own-le g = named-le (c1to3 g Low)
 
-pub context-le : (x : ℕ) → contextMode x ≤ 3
+pub context-le : (x : Context) → contextMode x ≤ 3
 context-le zero = omega arith
 context-le (suc zero) = omega arith
 context-le (suc (suc zero)) = omega arith
 context-le (suc (suc (suc x))) = named-le x
 
 -- a kind 6 has its own mode, else the context's
-pub mode-context : (x : ℕ) (g : Word) (own : ℕ) → own ≡ ownMode g → own ≡ 0 → contextMode x ≡ modeOf x g Lower
+pub mode-context : (x : Context) (g : Word) (own : ℕ) → own ≡ ownMode g → own ≡ 0 → contextMode x ≡ modeOf x g Lower
 mode-context x g own e h = rw (eq-eqb (ownMode g) 0 (sym e ∙ h))
 
-pub mode-own : (x : ℕ) (g : Word) (own : ℕ) → own ≡ ownMode g → (own ≡ 0 → ⊥) → own ≡ modeOf x g Lower
+pub mode-own : (x : Context) (g : Word) (own : ℕ) → own ≡ ownMode g → (own ≡ 0 → ⊥) → own ≡ modeOf x g Lower
 mode-own x g own e h = rw (ne-eqb (ownMode g) 0 (λ z. h (e ∙ z))) e
 
 -- the wrong ones of one CRC and of four
@@ -70,11 +70,11 @@ pub four-wrongs : (g : Word) (ps qs rs ss : List ℕ) (a b c d : ℕ) → a ≡ 
 four-wrongs g ps qs rs ss a b c d p q r s = rw (p, q, r, s) (omega arith)
 
 -- the verdict of a kind with CRCs of its own
-pub own-verdict : (x : ℕ) (g : Word) (k : Kind) (r : ℕ) → unchecked x g k ≡ false → modeOf x g k ≡ 0 → r ≡ wrongs g (checks 0 k) → r ≡ verdictOf x g k
+pub own-verdict : (x : Context) (g : Word) (k : Kind) (r : ℕ) → unchecked x g k ≡ false → modeOf x g k ≡ 0 → r ≡ wrongs g (checks 0 k) → r ≡ verdictOf x g k
 unfolding verdictOf
 own-verdict x g k r u m e = rw (u, m) (omega arith)
 
 -- and of a kind 6
-pub lower-verdict : (x : ℕ) (g : Word) (mode r : ℕ) → mode ≡ modeOf x g Lower → r ≡ 128 * toN (eqb mode 0) + 16 * mode + wrongs g (checksLower mode) → r ≡ verdictOf x g Lower
+pub lower-verdict : (x : Context) (g : Word) (mode r : ℕ) → mode ≡ modeOf x g Lower → r ≡ 128 * toN (eqb mode 0) + 16 * mode + wrongs g (checksLower mode) → r ≡ verdictOf x g Lower
 unfolding verdictOf checks
 lower-verdict x g mode r m e = e ∙ ap (λ (n : ℕ). 128 * toN (eqb n 0) + 16 * n + wrongs g (checksLower n)) m

@@ -3,6 +3,7 @@
 use mathlib.Core.Path.{_≡_}
 use mathlib.Core.Bool.{true, false}
 use Rattle.channel.specs.declared.Direction.{Direction}
+use Rattle.channel.specs.declared.Terms.{Terms}
 use Rattle.channel.specs.declared.Pattern.{Pattern}
 use Rattle.channel.specs.declared.Kind.{Kind}
 use Rattle.channel.specs.declared.Found.{Found}
@@ -23,6 +24,6 @@ Coded d g t (Is k) = (patternOf k ≡ t) × (coded d g k ≡ true)
 Coded d g t Nothing = (k : Kind) → patternOf k ≡ t → coded d g k ≡ false
 
 -- the kind found is one whose fixed bits and coding hold; where none is found they hold of none
-abbrev pub KindOf : Direction → Word → Found → Type 0
-KindOf d g (Is k) = isBody d g k ≡ true
-KindOf d g Nothing = (k : Kind) → isBody d g k ≡ false
+abbrev pub KindOf : Terms → Word → Found → Type 0
+KindOf t g (Is k) = isBody (t .direction) g k ≡ true
+KindOf t g Nothing = (k : Kind) → isBody (t .direction) g k ≡ false

@@ -15,6 +15,7 @@ use channel::Direction;
 use channel::Found;
 use channel::Kind;
 use channel::Pattern;
+use channel::Terms;
 use word::Words;
 
 // A pattern, or none.
@@ -169,12 +170,13 @@ fn low_kind(w: Words, d: Direction) -> Found
 }
 
 // The kind of a frame, by fixed bits and coding. Only words are read here: where single octets are read too, the compiler no longer reads eight at once.
-pub fn kind_of(o: [u8; 20], d: Direction) -> Found
-    ensures { λ r. ⌜ KindOf d (bitAt o) r ⌝ }
+pub fn kind_of(o: [u8; 20], t: Terms) -> Found
+    ensures { λ r. ⌜ KindOf t (bitAt o) r ⌝ }
 {
+    let d = t.direction;
     let w = word::words_of(&o);
     match pattern_of(w) {
-        Sync::In(t) => match t {
+        Sync::In(p) => match p {
             Pattern::Hr => hr_kind(w, d),
             Pattern::Low => low_kind(w, d),
             Pattern::P670 => Found::Is(Kind::Amr670),

@@ -7,6 +7,7 @@ use Rattle.bits.specs.Bit.{bitAt}
 use Rattle.channel.specs.declared.Kind.{Kind}
 use Rattle.channel.specs.Kinds.{bodyOf}
 use Rattle.channel.specs.Coding.{wordAt}
+use Rattle.channel.specs.Verdict.{Context}
 use Rattle.channel.specs.Frames.{Frame}
 use Rattle.item.specs.declared.ItemKind.{ItemKind}
 use Rattle.item.specs.declared.ItemKind.the-variants as of
@@ -27,5 +28,5 @@ abbrev pub itemOf : Item → reading.Item Frame
 itemOf i = itemBy (i .kind) (i .octets) (i .start) (i .length) (i .verdict)
 
 -- the cursor of the code
-abbrev pub cursorOf : Cursor → reading.Cursor ℕ
+abbrev pub cursorOf : Cursor → reading.Cursor Context
 cursorOf c = record { position = c .position; context = c .context }

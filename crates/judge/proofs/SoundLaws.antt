@@ -14,6 +14,7 @@ use Rattle.reading.specs.Reading.{frame}
 use Rattle.bits.specs.Bit.{bitAt}
 use Rattle.put.specs.Put.{putPlaces}
 use Rattle.channel.specs.declared.Direction.{Direction}
+use Rattle.channel.specs.declared.Terms.{Terms}
 use Rattle.channel.specs.declared.Kind.{Kind}
 use Rattle.channel.specs.declared.Found.{Found}
 use Rattle.channel.specs.declared.Found.the-variants.{Is, Nothing}
@@ -94,7 +95,7 @@ pub of-not : (k : Kind) → of.Unsound ≡ of.Frame k → ⊥
 of-not k e = let z : _≡_ {A = ℕ} 0 1 = cc in omega arith
 
 -- bytes that begin with the sound record of a frame
-module _ (d : Direction) (part : List ℕ) (f : Frame) (rest : List ℕ) (s : SoundAs d part f rest) where
+module _ (terms : Terms) (part : List ℕ) (f : Frame) (rest : List ℕ) (s : SoundAs terms part f rest) where
   -- the first byte tells the kind
   pub front-kind : kindBy (getD part 0 0) ≡ Is (f .kind)
   unfolding recordOf
@@ -131,19 +132,15 @@ module _ (d : Direction) (part : List ℕ) (f : Frame) (rest : List ℕ) (s : So
       ∙ ap (λ (b : List ℕ). take (dLength (f .kind)) (drop 12 b)) (sym (s .front))
 
   -- the octets built from the record have its body
-  front-body : (octets : List ℕ) → octets ≡ octetsBy (f .kind) (getD part 9 0) (getD part 10 0) (drop 12 part) → wordAt (bitAt octets) 0 (bodyOf (f .kind)) ≡ f .body
-  front-body octets e =
-      words-one (bitAt octets) (f .body) (bodyOf (f .kind))
-      (λ i l.
-      ap (λ (o : List ℕ). bitAt o i) e
-      ∙ built (f .body) (f .kind) (getD part 9 0) (getD part 10 0) (drop 12 part) (body-framed d (f .body) (f .kind) (s .fit .holds)) front-control front-extended front-d i l)
+  front-body : wordAt (bitAt (recordAs (f .kind) part .octets)) 0 (bodyOf (f .kind)) ≡ f .body
+  front-body =
+      words-one (bitAt (recordAs (f .kind) part .octets)) (f .body) (bodyOf (f .kind))
+      (built (f .body) (f .kind) (getD part 9 0) (getD part 10 0) (drop 12 part) (body-framed (terms .direction) (f .body) (f .kind) (s .fit .holds)) front-control front-extended front-d)
       ∙ sym (s .fit .cut)
 
   -- so the record by its bytes is of that frame
   front-frame : frameBy (recordAs (f .kind) part) (f .kind) ≡ f
-  front-frame =
-      let body = front-body (octetsBy (f .kind) (getD part 9 0) (getD part 10 0) (drop 12 part)) refl in
-      λ i. record { kind = f .kind; start = front-start i; body = body i; tail = front-tail i; verdict = front-verdict i }
+  front-frame = λ i. record { kind = f .kind; start = front-start i; body = front-body i; tail = front-tail i; verdict = front-verdict i }
 
   front-record : recordFrom part ≡ recordAs (f .kind) part
   front-record = rw (front-kind, le-ltb (length part) (12 + dLength (f .kind)) front-long)
@@ -174,8 +171,8 @@ module _ (part : List ℕ) where
 
   module _ (r : Record) (h : RecordBy part r) where
     -- unsound: no frame has such a record
-    pub record-none : r .kind ≡ of.Unsound → (d : Direction) → Unsound d part
-    record-none e d f rest s = of-not (f .kind) (sym e ∙ ap (λ (q : Record). q .kind) (h .is ∙ front-record d part f rest s))
+    pub record-none : r .kind ≡ of.Unsound → (terms : Terms) → Unsound terms part
+    record-none e terms f rest s = of-not (f .kind) (sym e ∙ ap (λ (q : Record). q .kind) (h .is ∙ front-record terms part f rest s))
 
     module _ (k : Kind) (e : r .kind ≡ of.Frame k) where
       -- of a frame of a kind: the record is not cut short
@@ -193,11 +190,11 @@ module _ (part : List ℕ) where
           go Nothing q = absurd (of-not k (sym (ap (λ (q : Record). q .kind) q) ∙ e))
 
       -- and where the bytes begin with the sound record of a frame, it is that frame
-      pub record-is : (d : Direction) (f : Frame) (rest : List ℕ) → SoundAs d part f rest → frameBy r k ≡ f
-      record-is d f rest s =
-          let q : r ≡ recordAs (f .kind) part = h .is ∙ front-record d part f rest s in
+      pub record-is : (terms : Terms) (f : Frame) (rest : List ℕ) → SoundAs terms part f rest → frameBy r k ≡ f
+      record-is terms f rest s =
+          let q : r ≡ recordAs (f .kind) part = h .is ∙ front-record terms part f rest s in
           let same : k ≡ f .kind = of-one k (f .kind) (sym e ∙ ap (λ (q : Record). q .kind) q) in
-          rw (q, same) (front-frame d part f rest s)
+          rw (q, same) (front-frame terms part f rest s)
 
 -- whether a word is the body of a kind, by the kind that is found
 pub kind-same : (d : Direction) (g : Word) (j k : Kind) → isBody d g j ≡ true → eqb (kindNo j) (kindNo k) ≡ isBody d g k
@@ -222,31 +219,31 @@ begins-with bytes part n l long same =
     (sym (ext-getD 0 bytes (take n part) (l ∙ sym (length-take-le n part long)) (λ j m. same j (omega arith) ∙ sym (getD-take n part j 0 (omega arith)))))
 
 -- a record of a frame of a kind
-module _ (d : Direction) (part : List ℕ) (r : Record) (k : Kind) (h : RecordBy part r) (e : r .kind ≡ of.Frame k) where
+module _ (terms : Terms) (part : List ℕ) (r : Record) (k : Kind) (h : RecordBy part r) (e : r .kind ≡ of.Frame k) where
   -- fixed bits or coding do not hold
-  pub sound-kind : isBody d (bitAt (r .octets)) k ≡ false → Unsound d part
+  pub sound-kind : isBody (terms .direction) (bitAt (r .octets)) k ≡ false → Unsound terms part
   sound-kind b f rest s =
-      let a : isBody d (wordAt (bitAt (r .octets)) 0 (bodyOf k)) k ≡ true = subst (λ (g : Frame). isBody d (g .body) (g .kind) ≡ true) (sym (record-is part r h k e d f rest s)) (s .fit .holds) in
-      never (sym a ∙ uncut d (bitAt (r .octets)) k ∙ b)
+      let a : isBody (terms .direction) (wordAt (bitAt (r .octets)) 0 (bodyOf k)) k ≡ true = subst (λ (g : Frame). isBody (terms .direction) (g .body) (g .kind) ≡ true) (sym (record-is part r h k e terms f rest s)) (s .fit .holds) in
+      never (sym a ∙ uncut (terms .direction) (bitAt (r .octets)) k ∙ b)
 
   -- the tail is below the least
-  pub sound-tail : r .tail < leastTail d k → Unsound d part
+  pub sound-tail : r .tail < leastTail (terms .direction) k → Unsound terms part
   sound-tail b f rest s =
-      let a : leastTail d k ≤ r .tail = subst (λ (g : Frame). leastTail d (g .kind) ≤ g .tail) (sym (record-is part r h k e d f rest s)) (s .least) in
+      let a : leastTail (terms .direction) k ≤ r .tail = subst (λ (g : Frame). leastTail (terms .direction) (g .kind) ≤ g .tail) (sym (record-is part r h k e terms f rest s)) (s .least) in
       omega arith
 
   -- the bytes begin with the record of the frame, or they do not
-  pub sound-record : isBody d (bitAt (r .octets)) k ≡ true → leastTail d k ≤ r .tail → (i : Item) → i ≡ frameItem r k → (b : Bool) → SameTo (sizeOf (itemOf i)) (recordOf (itemOf i)) part b → SoundBy d part (frameBy r k) b
+  pub sound-record : isBody (terms .direction) (bitAt (r .octets)) k ≡ true → leastTail (terms .direction) k ≤ r .tail → (i : Item) → i ≡ frameItem r k → (b : Bool) → SameTo (sizeOf (itemOf i)) (recordOf (itemOf i)) part b → SoundBy terms part (frameBy r k) b
   sound-record b l i is t same = go t (subst (λ (i : Item). SameTo (sizeOf (itemOf i)) (recordOf (itemOf i)) part t) is same)
     where
-      go : (t : Bool) → SameTo (sizeOf (frame (frameBy r k))) (recordOf (frame (frameBy r k))) part t → SoundBy d part (frameBy r k) t
+      go : (t : Bool) → SameTo (sizeOf (frame (frameBy r k))) (recordOf (frame (frameBy r k))) part t → SoundBy terms part (frameBy r k) t
       go true same = (
         drop (sizeOf (frame (frameBy r k))) part,
         record {
           fit =
               record {
                 cut = cut-cut (bitAt (r .octets)) 0 (bodyOf k);
-                holds = uncut d (bitAt (r .octets)) k ∙ b;
+                holds = uncut (terms .direction) (bitAt (r .octets)) k ∙ b;
                 start-fits = h .start-fits;
                 tail-fits = h .tail-fits;
               };
@@ -256,31 +253,31 @@ module _ (d : Direction) (part : List ℕ) (r : Record) (k : Kind) (h : RecordBy
       )
       go false same = λ f rest s. same (λ j m. begun f rest s j m)
         where
-          begun : (f : Frame) (rest : List ℕ) → SoundAs d part f rest → (j : ℕ) → j < sizeOf (frame (frameBy r k)) → getD (recordOf (frame (frameBy r k))) j 0 ≡ getD part j 0
+          begun : (f : Frame) (rest : List ℕ) → SoundAs terms part f rest → (j : ℕ) → j < sizeOf (frame (frameBy r k)) → getD (recordOf (frame (frameBy r k))) j 0 ≡ getD part j 0
           begun f rest s j m =
-              let q : frameBy r k ≡ f = record-is part r h k e d f rest s in
+              let q : frameBy r k ≡ f = record-is part r h k e terms f rest s in
               let n : j < length (recordOf (frame f)) = omega (arith, ap (λ (g : Frame). sizeOf (frame g)) q, record-length (frame f)) in
               ap (λ (g : Frame). getD (recordOf (frame g)) j 0) q ∙ sym (List·getD-append (recordOf (frame f)) rest 0 j n) ∙ ap (λ (b : List ℕ). getD b j 0) (sym (s .front))
 
   -- the record is judged sound
-  pub judged-sound : (b : Bool) → SoundBy d part (frameBy r k) b → b ≡ true → Judged d part r
-  judged-sound b s t = let s′ : SoundBy d part (frameBy r k) true = rw t at s in subst (λ (j : RecordKind). JudgedBy d part j r) (sym e) (h .is, s′)
+  pub judged-sound : (b : Bool) → SoundBy terms part (frameBy r k) b → b ≡ true → Judged terms part r
+  judged-sound b s t = let s′ : SoundBy terms part (frameBy r k) true = rw t at s in subst (λ (j : RecordKind). JudgedBy terms part j r) (sym e) (h .is, s′)
 
 -- or unsound
-pub judged-unsound : (d : Direction) (part : List ℕ) (r : Record) → r ≡ unsoundRecord → Unsound d part → Judged d part r
-judged-unsound d part r n u = subst (Judged d part) (sym n) (refl, u)
+pub judged-unsound : (terms : Terms) (part : List ℕ) (r : Record) → r ≡ unsoundRecord → Unsound terms part → Judged terms part r
+judged-unsound terms part r n u = subst (Judged terms part) (sym n) (refl, u)
 
-pub unsound-by : (d : Direction) (part : List ℕ) (f : Frame) (b : Bool) → SoundBy d part f b → b ≡ false → Unsound d part
-unsound-by d part f b s t = subst (SoundBy d part f) t s
+pub unsound-by : (terms : Terms) (part : List ℕ) (f : Frame) (b : Bool) → SoundBy terms part f b → b ≡ false → Unsound terms part
+unsound-by terms part f b s t = subst (SoundBy terms part f) t s
 
 -- no second record fits, in any of its numbers
-pub record-one : (part : List ℕ) (r s : Record) → RecordBy part r → RecordBy part s → r ≡ s
-record-one part r s a b = a .is ∙ sym (b .is)
+pub record-by-one : (part : List ℕ) (r s : Record) → RecordBy part r → RecordBy part s → r ≡ s
+record-by-one part r s a b = a .is ∙ sym (b .is)
 
-pub judged-one : (d : Direction) (part : List ℕ) (r s : Record) → Judged d part r → Judged d part s → r ≡ s
-judged-one d part r s a b = go (r .kind) (s .kind) a b
+pub judged-one : (terms : Terms) (part : List ℕ) (r s : Record) → Judged terms part r → Judged terms part s → r ≡ s
+judged-one terms part r s a b = go (r .kind) (s .kind) a b
   where
-    go : (j k : RecordKind) → JudgedBy d part j r → JudgedBy d part k s → r ≡ s
+    go : (j k : RecordKind) → JudgedBy terms part j r → JudgedBy terms part k s → r ≡ s
     go (of.Frame j) (of.Frame k) a b = a .0 ∙ sym (b .0)
     go of.Unsound of.Unsound a b = a .0 ∙ sym (b .0)
     go (of.Frame j) of.Unsound a b = absurd (b .1 (frameBy r j) (a .1 .0) (a .1 .1))

@@ -6,7 +6,7 @@ use mathlib.Core.List.{List, [], _∷_}
 use Prim.Native.Nat.{ℕ, _+_, _<_}
 use lib.Dec.{ltb}
 use lib.ListN.{length, getD, drop, replicate}
-use Rattle.channel.specs.declared.Direction.{Direction}
+use Rattle.channel.specs.declared.Terms.{Terms}
 use Rattle.channel.specs.declared.Kind.{Kind}
 use Rattle.channel.specs.declared.Found.{Found}
 use Rattle.channel.specs.declared.Found.the-variants.{Is, Nothing}
@@ -74,14 +74,14 @@ SameTo n a b true = (j : ℕ) → j < n → getD a j 0 ≡ getD b j 0
 SameTo n a b false = ((j : ℕ) → j < n → getD a j 0 ≡ getD b j 0) → ⊥
 
 -- the record in front of some bytes is sound, that of a frame, or is not
-abbrev pub SoundBy : Direction → List ℕ → Frame → Bool → Type 0
-SoundBy d bytes f true = (rest : List ℕ) × SoundAs d bytes f rest
-SoundBy d bytes f false = Unsound d bytes
+abbrev pub SoundBy : Terms → List ℕ → Frame → Bool → Type 0
+SoundBy t bytes f true = (rest : List ℕ) × SoundAs t bytes f rest
+SoundBy t bytes f false = Unsound t bytes
 
 -- a record judged: by its bytes, that of the frame that it is the sound record of; or unsound
-abbrev pub JudgedBy : Direction → List ℕ → RecordKind → Record → Type 0
-JudgedBy d bytes (of.Frame k) r = (r ≡ recordFrom bytes) × ((rest : List ℕ) × SoundAs d bytes (frameBy r k) rest)
-JudgedBy d bytes of.Unsound r = (r ≡ unsoundRecord) × Unsound d bytes
+abbrev pub JudgedBy : Terms → List ℕ → RecordKind → Record → Type 0
+JudgedBy t bytes (of.Frame k) r = (r ≡ recordFrom bytes) × ((rest : List ℕ) × SoundAs t bytes (frameBy r k) rest)
+JudgedBy t bytes of.Unsound r = (r ≡ unsoundRecord) × Unsound t bytes
 
-abbrev pub Judged : Direction → List ℕ → Record → Type 0
-Judged d bytes r = JudgedBy d bytes (r .kind) r
+abbrev pub Judged : Terms → List ℕ → Record → Type 0
+Judged t bytes r = JudgedBy t bytes (r .kind) r

@@ -13,9 +13,9 @@ ghost use Rattle.item.specs.Item.{itemOf, cursorOf};
 ghost use Rattle.record.specs.Record.{sizeOf, recordOf};
 ghost use Rattle.judge.specs.Sound.{soundNumber};
 ghost use Rattle.judge.specs.Judged.{kindBy, unsoundRecord, frameBy, frameItem, RecordBy, PlanFor, SameTo, SoundBy, Judged};
-use channel::Direction;
 use channel::Found;
 use channel::Kind;
+use channel::Terms;
 use item::Cursor;
 use item::Item;
 use item::ItemKind;
@@ -123,10 +123,10 @@ pub fn record_by(part: &[u8], table: &[u8], plan: &mut [u32]) -> Record
 }
 
 // Whether fixed bits and coding of a kind hold.
-fn is_kind(o: [u8; 20], d: Direction, k: Kind) -> bool
-    ensures { λ r. ⌜ r ≡ isBody d (bitAt o) k ⌝ }
+fn is_kind(o: [u8; 20], t: Terms, k: Kind) -> bool
+    ensures { λ r. ⌜ r ≡ isBody (t .direction) (bitAt o) k ⌝ }
 {
-    match frame::kind_of(o, d) {
+    match frame::kind_of(o, t) {
         Found::Is(j) => kinds::number(j) == kinds::number(k),
         Found::Nothing => false,
     }
@@ -157,13 +157,14 @@ fn is_record(part: &[u8], i: Item, table: &[u8], plan: &[u32]) -> bool
 }
 
 // Whether a record of a frame of a kind is sound: fixed bits and coding, the least tail, and the bytes that the record of that frame has.
-fn sound(part: &[u8], d: Direction, r: Record, k: Kind, table: &[u8], plan: &[u32]) -> bool
+fn sound(part: &[u8], t: Terms, r: Record, k: Kind, table: &[u8], plan: &[u32]) -> bool
     requires { ⌜ RecordBy (now part) r × (r .kind ≡ RecordKind.Frame k) × PlanFor (r .kind) (now table) (now plan) ⌝ }
-    ensures { λ b. ⌜ SoundBy d (now (part .entry)) (frameBy r k) b ⌝ }
+    ensures { λ b. ⌜ SoundBy t (now (part .entry)) (frameBy r k) b ⌝ }
 {
+    let d = t.direction;
     let octets = r.octets;
     let tail = r.tail;
-    if !is_kind(octets, d, k) {
+    if !is_kind(octets, t, k) {
         return false;
     }
     if tail < kinds::least_tail(d, k) {
@@ -173,15 +174,15 @@ fn sound(part: &[u8], d: Direction, r: Record, k: Kind, table: &[u8], plan: &[u3
 }
 
 // The record in front of some bytes, judged: that of the frame that it is the sound record of, or unsound.
-pub fn frame_of(part: &[u8], d: Direction, table: &[u8], plan: &mut [u32]) -> Record
+pub fn frame_of(part: &[u8], t: Terms, table: &[u8], plan: &mut [u32]) -> Record
     requires { ⌜ (0 < length (now part)) × Plans (now table) (now plan) ⌝ }
-    ensures { λ r. ⌜ Judged d (now (part .entry)) r × (r .start ≤ 4294967295) × (r .tail ≤ 4294967295) × Plans (now (table .entry)) (now (plan .exit)) ⌝ }
+    ensures { λ r. ⌜ Judged t (now (part .entry)) r × (r .start ≤ 4294967295) × (r .tail ≤ 4294967295) × Plans (now (table .entry)) (now (plan .exit)) ⌝ }
 {
     let r = record_by(part, table, plan);
     let kind = r.kind;
     match kind {
         RecordKind::Frame(k) => {
-            if sound(part, d, r, k, table, plan) {
+            if sound(part, t, r, k, table, plan) {
                 return r;
             }
             unsound()

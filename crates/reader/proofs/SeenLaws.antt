@@ -11,12 +11,13 @@ use lib.Dec.{eqb, ltb}
 use Rattle.bits.specs.Bit.{bitAt, twenty, bitsFrom}
 use Rattle.bits.proofs.BitLaws.{twenty-bit}
 use Rattle.channel.specs.declared.Direction.{Direction}
+use Rattle.channel.specs.declared.Terms.{Terms}
 use Rattle.channel.specs.declared.Kind.{Kind}
 use Rattle.channel.specs.declared.Found.{Found}
 use Rattle.channel.specs.declared.Found.the-variants.{Is, Nothing}
 use Rattle.channel.specs.Kinds.{bodyOf, leastTail}
 use Rattle.channel.specs.Coding.{Word, wordAt, isBody}
-use Rattle.channel.specs.Verdict.{verdictOf, startsBy, follows, allowed}
+use Rattle.channel.specs.Verdict.{Context, verdictOf, startsBy, follows, allowed}
 use Rattle.channel.specs.Frames.{Capture, Frame, Tail, Due}
 use Rattle.channel.proofs.BoolLaws.{never}
 use Rattle.channel.proofs.TailLaws.{tail-one}
@@ -27,9 +28,12 @@ use Rattle.item.specs.declared.Item.{Item}
 use Rattle.item.specs.Item.{frameOf}
 use Rattle.reader.specs.Seen.{gapOf, octetsAt, Seen}
 
-module _ (f : ℕ → Bool) (n : ℕ) (d : Direction) (x p : ℕ) (o : List ℕ) (octets : o ≡ twenty (bitsFrom f n p)) where
+module _ (f : ℕ → Bool) (n : ℕ) (terms : Terms) (x : Context) (p : ℕ) (o : List ℕ) (octets : o ≡ twenty (bitsFrom f n p)) where
   abbrev w : Capture
-  w = record { bits = f; n = n; direction = d }
+  w = record { bits = f; n = n; terms = terms }
+
+  abbrev d : Direction
+  d = terms .direction
 
   abbrev g : Word
   g = bitAt o
@@ -103,12 +107,12 @@ module _ (f : ℕ → Bool) (n : ℕ) (d : Direction) (x p : ℕ) (o : List ℕ)
     )
 
 -- an answer without a frame
-pub seen-gap : (w : Capture) (x p : ℕ) (i : Item) → i ≡ gapOf p 0 → ((f : Frame) → Due w x p f → ⊥) → Seen w x p i
+pub seen-gap : (w : Capture) (x : Context) (p : ℕ) (i : Item) → i ≡ gapOf p 0 → ((f : Frame) → Due w x p f → ⊥) → Seen w x p i
 seen-gap w x p i e h = rw e h
 
 -- an answer by what was found
-pub kind-is : (d : Direction) (g : Word) (r : Found) (k : Kind) → KindOf d g r → r ≡ Is k → isBody d g k ≡ true
-kind-is d g r k h e = let h′ : KindOf d g (Is k) = rw e at h in h′
+pub kind-is : (t : Terms) (g : Word) (r : Found) (k : Kind) → KindOf t g r → r ≡ Is k → isBody (t .direction) g k ≡ true
+kind-is t g r k h e = let h′ : KindOf t g (Is k) = rw e at h in h′
 
-pub kind-no : (d : Direction) (g : Word) (r : Found) → KindOf d g r → r ≡ Nothing → (k : Kind) → isBody d g k ≡ false
-kind-no d g r h e = let h′ : KindOf d g Nothing = rw e at h in h′
+pub kind-no : (t : Terms) (g : Word) (r : Found) → KindOf t g r → r ≡ Nothing → (k : Kind) → isBody (t .direction) g k ≡ false
+kind-no t g r h e = let h′ : KindOf t g Nothing = rw e at h in h′

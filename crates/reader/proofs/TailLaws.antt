@@ -12,7 +12,7 @@ use lib.Count.{leadingZeros}
 use lib.Dec.{eqb, leb, ltb}
 use lib.ListN.{getD}
 use Rattle.bits.specs.Bit.{bitAt, count}
-use Rattle.channel.specs.declared.Direction.{Direction}
+use Rattle.channel.specs.declared.Terms.{Terms}
 use Rattle.channel.specs.Coding.{all}
 use Rattle.channel.specs.Frames.{captureOf, Tail}
 use Rattle.channel.proofs.BoolLaws.{ands, all-at}
@@ -92,8 +92,8 @@ module _ (s : List ℕ) (q e k : ℕ) (so-far : (i : ℕ) → q ≤ i → i < e 
       rw (d, m, first .zero l)
 
 -- the whole tail, where a zero or n was met
-pub tail-met : (s : List ℕ) (n q e : ℕ) → q ≤ e → e ≤ n → ((i : ℕ) → q ≤ i → i < e → bitAt s i ≡ true) → (e ≡ n) ⊎ (bitAt s e ≡ false) → (d : Direction) → Tail (captureOf s n d) q (e - q)
-tail-met s n q e l m h stop d =
+pub tail-met : (s : List ℕ) (n q e : ℕ) → q ≤ e → e ≤ n → ((i : ℕ) → q ≤ i → i < e → bitAt s i ≡ true) → (e ≡ n) ⊎ (bitAt s e ≡ false) → (t : Terms) → Tail (captureOf s n t) q (e - q)
+tail-met s n q e l m h stop t =
     let k : q + (e - q) ≡ e = omega arith in
     record {
       within = omega arith;

@@ -8,6 +8,7 @@ use Prim.Native.Nat.{ℕ, _-_, _/_, _%_, _^_, _≤_, _<_}
 use lib.ListN.{replicate}
 use Rattle.reading.specs.Reading.{Cursor, Starts, Obeys}
 use Rattle.bits.specs.Bit.{twenty, bitsFrom}
+use Rattle.channel.specs.Verdict.{Context}
 use Rattle.channel.specs.Frames.{Capture, Frame, Due, rules}
 use Rattle.item.specs.declared.ItemKind.{ItemKind}
 use Rattle.item.specs.declared.ItemKind.the-variants as of
@@ -30,11 +31,11 @@ abbrev pub octetsAt : Capture → ℕ → List ℕ
 octetsAt w p = twenty (bitsFrom (w .bits) (w .n) p)
 
 -- a frame is due at p in context x, and its octets are those from p on; or a gap is there, and no frame is due
-abbrev pub SeenBy : Capture → ℕ → ℕ → ItemKind → List ℕ → ℕ → ℕ → ℕ → Type 0
+abbrev pub SeenBy : Capture → Context → ℕ → ItemKind → List ℕ → ℕ → ℕ → ℕ → Type 0
 SeenBy w x p (of.Frame k) octets start tail verdict = Due w x p (frameOf k octets start tail verdict) × (octets ≡ octetsAt w p)
 SeenBy w x p of.Gap octets start tail verdict = (f : Frame) → Due w x p f → ⊥
 
-abbrev pub Seen : Capture → ℕ → ℕ → Item → Type 0
+abbrev pub Seen : Capture → Context → ℕ → Item → Type 0
 Seen w x p i = SeenBy w x p (i .kind) (i .octets) (i .start) (i .length) (i .verdict)
 
 -- whether a frame starts a run at p
@@ -55,6 +56,6 @@ Beside w (of.Frame k) octets start verdict = octets ≡ octetsAt w start
 Beside w of.Gap octets start verdict = (octets ≡ replicate 20 0) × (verdict ≡ 0)
 
 -- the item at a cursor: it obeys the rules, and every other number of it is settled
-pub record ItemAt (w : Capture) (c : Cursor ℕ) (i : Item) : Type 0 where
+pub record ItemAt (w : Capture) (c : Cursor Context) (i : Item) : Type 0 where
   pub obeys : Obeys rules w c (itemOf i)
   pub beside : Beside w (i .kind) (i .octets) (i .start) (i .verdict)

@@ -2,13 +2,13 @@
 ghost use mathlib.Core.Path.{_≡_};
 ghost use Prim.Native.Nat.{_+_, _*_, _<_, _≤_};
 ghost use lib.ListN.{length};
-ghost use Rattle.channel.specs.declared.Direction.{Direction as Way};
+ghost use Rattle.channel.specs.declared.Terms.{Terms as Agreed};
 ghost use Rattle.channel.specs.Frames.{captureOf, Tail};
 ghost use Rattle.frame.specs.Kept.{Kept};
 ghost use Rattle.item.specs.Item.{cursorOf};
 ghost use Rattle.reader.specs.Seen.{FirstZero, gapOf, Seen, Starting, GapEnd, ItemAt};
-use channel::Direction;
 use channel::Found;
+use channel::Terms;
 use item::Cursor;
 use item::Item;
 use item::ItemKind;
@@ -25,7 +25,7 @@ fn first_zero(x: u8, r: usize) -> usize
 // The length of the whole tail behind q: the ones up to the next zero or to n, byte by byte.
 fn tail_at(s: &[u8], n: usize, q: usize) -> usize
     requires { ⌜ (q ≤ n) × (n ≤ 8 * length (now s)) × (length (now s) ≤ 65536) ⌝ }
-    ensures { λ r. ⌜ ((d : Way) → Tail (captureOf (now (s .entry)) n d) q r) ⌝ }
+    ensures { λ r. ⌜ ((t : Agreed) → Tail (captureOf (now (s .entry)) n t) q r) ⌝ }
 {
     let mut end = q;
     while end < n {
@@ -58,12 +58,13 @@ fn gap(start: usize, length: usize) -> Item
 
 // The frame that is due at p in context x; where none is, the gap there, of which no bit is searched yet. The tail is counted last, so that only the tail of
 // a frame that is otherwise due is gone through.
-fn frame_at(s: &[u8], n: usize, d: Direction, p: usize, x: u8, masks: &mut [u64]) -> Item
+fn frame_at(s: &[u8], n: usize, t: Terms, p: usize, x: u8, masks: &mut [u64]) -> Item
     requires { ⌜ (p ≤ n) × (n ≤ 8 * length (now s)) × (length (now s) ≤ 65536) × Kept (now masks) ⌝ }
-    ensures { λ r. ⌜ Seen (captureOf (now (s .entry)) n d) x p r × Kept (now (masks .exit)) ⌝ }
+    ensures { λ r. ⌜ Seen (captureOf (now (s .entry)) n t) x p r × Kept (now (masks .exit)) ⌝ }
 {
+    let d = t.direction;
     let o = bits::octets(s, n, p);
-    match frame::kind_of(o, d) {
+    match frame::kind_of(o, t) {
         Found::Is(k) => {
             let behind = p + kinds::body(k);
             if n < behind {
@@ -90,11 +91,11 @@ fn frame_at(s: &[u8], n: usize, d: Direction, p: usize, x: u8, masks: &mut [u64]
 }
 
 // Whether a frame starts a run at q: judged in context 0.
-fn starts_at(s: &[u8], n: usize, d: Direction, q: usize, masks: &mut [u64]) -> bool
+fn starts_at(s: &[u8], n: usize, t: Terms, q: usize, masks: &mut [u64]) -> bool
     requires { ⌜ (q ≤ n) × (n ≤ 8 * length (now s)) × (length (now s) ≤ 65536) × Kept (now masks) ⌝ }
-    ensures { λ r. ⌜ Starting (captureOf (now (s .entry)) n d) q r × Kept (now (masks .exit)) ⌝ }
+    ensures { λ r. ⌜ Starting (captureOf (now (s .entry)) n t) q r × Kept (now (masks .exit)) ⌝ }
 {
-    let i = frame_at(s, n, d, q, 0, masks);
+    let i = frame_at(s, n, t, q, 0, masks);
     let kind = i.kind;
     match kind {
         ItemKind::Frame(_) => true,
@@ -107,9 +108,9 @@ const SYNC: [u8; 8] = [32, 48, 64, 80, 96, 112, 128, 144];
 
 // The first place from `from` on where a frame starts a run, or n. Places without eight zeros and a one are stepped over by the byte; any other is left at
 // the first fixed bit that differs.
-fn gap_end(s: &[u8], n: usize, d: Direction, from: usize, masks: &mut [u64]) -> usize
+fn gap_end(s: &[u8], n: usize, t: Terms, from: usize, masks: &mut [u64]) -> usize
     requires { ⌜ (from ≤ n) × (n ≤ 8 * length (now s)) × (length (now s) ≤ 65536) × Kept (now masks) ⌝ }
-    ensures { λ r. ⌜ GapEnd (captureOf (now (s .entry)) n d) from r × Kept (now (masks .exit)) ⌝ }
+    ensures { λ r. ⌜ GapEnd (captureOf (now (s .entry)) n t) from r × Kept (now (masks .exit)) ⌝ }
 {
     let sync = SYNC;
     let mut q = from;
@@ -125,7 +126,7 @@ fn gap_end(s: &[u8], n: usize, d: Direction, from: usize, masks: &mut [u64]) -> 
                 continue 'places;
             }
         }
-        if starts_at(s, n, d, q, masks) {
+        if starts_at(s, n, t, q, masks) {
             return q;
         }
         q += 1; // no frame starts a run here
@@ -134,18 +135,18 @@ fn gap_end(s: &[u8], n: usize, d: Direction, from: usize, masks: &mut [u64]) -> 
 }
 
 // The item at a cursor before n: the frame that is due there, else the gap to the next place where a frame starts a run, or to n.
-pub fn item_at(s: &[u8], n: usize, d: Direction, c: Cursor, masks: &mut [u64]) -> Item
+pub fn item_at(s: &[u8], n: usize, t: Terms, c: Cursor, masks: &mut [u64]) -> Item
     requires { ⌜ (c .position < n) × (n ≤ 8 * length (now s)) × (length (now s) ≤ 65536) × Kept (now masks) ⌝ }
-    ensures { λ r. ⌜ ItemAt (captureOf (now (s .entry)) n d) (cursorOf c) r × Kept (now (masks .exit)) ⌝ }
+    ensures { λ r. ⌜ ItemAt (captureOf (now (s .entry)) n t) (cursorOf c) r × Kept (now (masks .exit)) ⌝ }
 {
     let p = c.position;
     let x = c.context;
-    let i = frame_at(s, n, d, p, x, masks);
+    let i = frame_at(s, n, t, p, x, masks);
     let kind = i.kind;
     match kind {
         ItemKind::Frame(_) => i,
         ItemKind::Gap => {
-            let end = gap_end(s, n, d, p + 1, masks);
+            let end = gap_end(s, n, t, p + 1, masks);
             gap(p, end - p)
         }
     }

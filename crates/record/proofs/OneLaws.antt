@@ -1,4 +1,4 @@
--- Records tell items apart: two items of a direction that have the same record are one.
+-- Records tell items apart: two items that terms allow and that have the same record are one.
 -- Assumes nothing.
 use mathlib.Core.Path.{_≡_, refl, sym, _∙_, ap, subst, fun-ext}
 use mathlib.Core.Bool.{Bool, true, false, _&&_}
@@ -9,7 +9,7 @@ use native.Mathlib.Omega.{arith}
 use borrow.Author.Tests.{ltb-true}
 use lib.Dec.{ltb}
 use lib.ListN.{length, getD, take, length-append, length-take}
-use Rattle.channel.specs.declared.Direction.{Direction}
+use Rattle.channel.specs.declared.Terms.{Terms}
 use Rattle.channel.specs.declared.Kind.{Kind}
 use Rattle.channel.specs.declared.Kind.the-variants.{Speech, Data, Om, Configuration, NoSpeech, Lower, Amr670, Amr740}
 use Rattle.channel.specs.Kinds.{kinds, kindNo, bodyOf}
@@ -17,6 +17,7 @@ use Rattle.channel.specs.Coding.{Word, wordAt, isBody}
 use Rattle.channel.specs.Control.{control, extended}
 use Rattle.dbits.specs.DBits.{dBytes}
 use Rattle.reading.specs.Reading.{Cursor, Item, gap, frame, Obeys, over, Stretch}
+use Rattle.channel.specs.Verdict.{Context}
 use Rattle.channel.specs.Frames.{Capture, Frame, rules}
 use Rattle.record.specs.Record.{wide, numberAt, dLength, recordOf, records}
 use Rattle.record.specs.Fit.{FitFrame, Fit, AllFit}
@@ -73,7 +74,7 @@ words-one g h b s = fun-ext (λ i. go i (ltb i b) refl)
     go i false e = refl
     go i true e = s (0 + i) (omega (arith, ltb-true i b e))
 
-module _ (d : Direction) (f g : Frame) (a : FitFrame d f) (b : FitFrame d g) (r s : List ℕ) (e : recordOf (frame f) ++ r ≡ recordOf (frame g) ++ s) where
+module _ (t : Terms) (f g : Frame) (a : FitFrame t f) (b : FitFrame t g) (r s : List ℕ) (e : recordOf (frame f) ++ r ≡ recordOf (frame g) ++ s) where
   same-kind : f .kind ≡ g .kind
   unfolding recordOf
   same-kind = kind-one (f .kind) (g .kind) (cc)
@@ -108,12 +109,12 @@ module _ (d : Direction) (f g : Frame) (a : FitFrame d f) (b : FitFrame d g) (r 
   same-body : f .body ≡ g .body
   same-body =
       let q = sym same-kind in
-      let here = body-same (f .body) (g .body) (f .kind) (body-framed d (f .body) (f .kind) (a .holds))
-      (body-framed d (g .body) (f .kind) (subst (λ (k : Kind). isBody d (g .body) k ≡ true) q (b .holds)))
+      let here = body-same (f .body) (g .body) (f .kind) (body-framed (t .direction) (f .body) (f .kind) (a .holds))
+      (body-framed (t .direction) (g .body) (f .kind) (subst (λ (k : Kind). isBody (t .direction) (g .body) k ≡ true) q (b .holds)))
       (same-control ∙ ap (control (g .body)) q) (same-extended ∙ ap (extended (g .body)) q) (rests .0 ∙ ap (λ (k : Kind). take (dLength k) (dBytes (g .body) k)) q) in
       a .cut ∙ words-one (f .body) (g .body) (bodyOf (f .kind)) here ∙ ap (λ (k : Kind). wordAt (g .body) 0 (bodyOf k)) same-kind ∙ sym (b .cut)
 
-  -- two frames of a direction with the same record in front are one, and so are the rests
+  -- two frames that terms allow, with the same record in front are one, and so are the rests
   pub frame-one : (f ≡ g) × (r ≡ s)
   frame-one = ((λ i. record { kind = same-kind i; start = same-start i; body = same-body i; tail = same-tail i; verdict = same-verdict i }), rests .1)
 
@@ -128,28 +129,28 @@ no-gap Lower e = omega arith
 no-gap Amr670 e = omega arith
 no-gap Amr740 e = omega arith
 
--- two items of a direction with the same record in front are one, and so are the rests
-pub record-one : (d : Direction) (x y : Item Frame) → Fit d x → Fit d y → (r s : List ℕ) → recordOf x ++ r ≡ recordOf y ++ s → (x ≡ y) × (r ≡ s)
+-- two items that terms allow, with the same record in front are one, and so are the rests
+pub record-one : (t : Terms) (x y : Item Frame) → Fit t x → Fit t y → (r s : List ℕ) → recordOf x ++ r ≡ recordOf y ++ s → (x ≡ y) × (r ≡ s)
 unfolding recordOf
-record-one d (gap p l) (gap q m) a b r s e =
+record-one t (gap p l) (gap q m) a b r s e =
     let u : p ≡ q = wide-one p q (a .0) (b .0) (cc) in
     let v : l ≡ m = wide-one l m (a .1) (b .1) (cc) in
     (cc, cc)
-record-one d (gap p l) (frame g) a b r s e = absurd (no-gap (g .kind) (cc))
-record-one d (frame f) (gap q m) a b r s e = absurd (no-gap (f .kind) (cc))
-record-one d (frame f) (frame g) a b r s e = let (p, q) = frame-one d f g a b r s e in (ap frame p, q)
+record-one t (gap p l) (frame g) a b r s e = absurd (no-gap (g .kind) (cc))
+record-one t (frame f) (gap q m) a b r s e = absurd (no-gap (f .kind) (cc))
+record-one t (frame f) (frame g) a b r s e = let (p, q) = frame-one t f g a b r s e in (ap frame p, q)
 
 nothing : (x : Item Frame) (r : List ℕ) → [] ≡ recordOf x ++ r → ⊥
 nothing x r e = omega (arith, ap length e, length-append (recordOf x) r, record-length x, size-pos x)
 
 -- so the bytes of records tell the items that they are of
-pub records-one : (d : Direction) (xs ys : List (Item Frame)) → AllFit d xs → AllFit d ys → records xs ≡ records ys → xs ≡ ys
-records-one d [] [] a b e = refl
-records-one d [] (y ∷ ys) a b e = absurd (nothing y (records ys) e)
-records-one d (x ∷ xs) [] a b e = absurd (nothing x (records xs) (sym e))
-records-one d (x ∷ xs) (y ∷ ys) a b e =
-    let (p, q) = record-one d x y (a .0) (b .0) (records xs) (records ys) e in
-    let r : xs ≡ ys = records-one d xs ys (a .1) (b .1) q in
+pub records-one : (t : Terms) (xs ys : List (Item Frame)) → AllFit t xs → AllFit t ys → records xs ≡ records ys → xs ≡ ys
+records-one t [] [] a b e = refl
+records-one t [] (y ∷ ys) a b e = absurd (nothing y (records ys) e)
+records-one t (x ∷ xs) [] a b e = absurd (nothing x (records xs) (sym e))
+records-one t (x ∷ xs) (y ∷ ys) a b e =
+    let (p, q) = record-one t x y (a .0) (b .0) (records xs) (records ys) e in
+    let r : xs ≡ ys = records-one t xs ys (a .1) (b .1) q in
     cc
 
 -- a word that is cut is not changed by the same cut
@@ -162,7 +163,7 @@ cut-cut f p b = fun-ext (λ i. go i (ltb i b) refl)
 
 -- the items of a capture are such items
 module _ (w : Capture) (short : w .n < 4294967296) where
-  pub obeys-fit : (c : Cursor ℕ) (x : Item Frame) → Obeys rules w c x → Fit (w .direction) x
+  pub obeys-fit : (c : Cursor Context) (x : Item Frame) → Obeys rules w c x → Fit (w .terms) x
   obeys-fit c (gap s l) o = (omega (arith, o .within, o .filled), omega (arith, o .within))
   obeys-fit c (frame f) o =
       let h = o .stands in
@@ -173,6 +174,6 @@ module _ (w : Capture) (short : w .n < 4294967296) where
         tail-fits = omega (arith, h .tail .within);
       }
 
-  pub stretch-fit : (c : Cursor ℕ) (xs : List (Item Frame)) → Stretch rules w c xs → AllFit (w .direction) xs
+  pub stretch-fit : (c : Cursor Context) (xs : List (Item Frame)) → Stretch rules w c xs → AllFit (w .terms) xs
   stretch-fit c [] s = tt
   stretch-fit c (x ∷ xs) s = (obeys-fit c x (s .0), stretch-fit (over rules c x) xs (s .1))

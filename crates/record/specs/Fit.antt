@@ -5,24 +5,24 @@ use mathlib.Core.Bool.{true}
 use mathlib.Core.List.{List, [], _∷_}
 use Prim.Native.Nat.{_<_}
 use Rattle.reading.specs.Reading.{Item, gap, frame}
-use Rattle.channel.specs.declared.Direction.{Direction}
+use Rattle.channel.specs.declared.Terms.{Terms}
 use Rattle.channel.specs.Kinds.{bodyOf}
 use Rattle.channel.specs.Coding.{wordAt, isBody}
 use Rattle.channel.specs.Frames.{Frame}
 
--- a frame of a direction: its body is no longer than its kind has it, fixed bits and coding hold, start and tail fit four bytes
-pub record FitFrame (d : Direction) (f : Frame) : Type 0 where
+-- a frame that terms allow: its body is no longer than its kind has it, fixed bits and coding hold, start and tail fit four bytes
+pub record FitFrame (t : Terms) (f : Frame) : Type 0 where
   pub cut : f .body ≡ wordAt (f .body) 0 (bodyOf (f .kind))
-  pub holds : isBody d (f .body) (f .kind) ≡ true
+  pub holds : isBody (t .direction) (f .body) (f .kind) ≡ true
   pub start-fits : f .start < 4294967296
   pub tail-fits : f .tail < 4294967296
 
--- an item of a direction; start and length of a gap fit four bytes
-abbrev pub Fit : Direction → Item Frame → Type 0
-Fit d (gap start length) = (start < 4294967296) × (length < 4294967296)
-Fit d (frame f) = FitFrame d f
+-- an item that terms allow; start and length of a gap fit four bytes
+abbrev pub Fit : Terms → Item Frame → Type 0
+Fit t (gap start length) = (start < 4294967296) × (length < 4294967296)
+Fit t (frame f) = FitFrame t f
 
 -- each of some items
-abbrev pub AllFit : Direction → List (Item Frame) → Type 0
-AllFit d [] = Unit {0}
-AllFit d (x ∷ xs) = Fit d x × AllFit d xs
+abbrev pub AllFit : Terms → List (Item Frame) → Type 0
+AllFit t [] = Unit {0}
+AllFit t (x ∷ xs) = Fit t x × AllFit t xs

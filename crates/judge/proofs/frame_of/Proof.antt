@@ -23,7 +23,7 @@ returns c =
     let a = c .before .before .before .before .before .before .before .before .before .before .before .before .before .args in
     let h = c .before .before .before .before .before .before .before .before .record-by in
     let s = c .before .sound in (
-      judged-sound (a .d) (a .part .now) (h .result) (c .before .before .before .before .kind .given .0 .0) (h .ensures .0) (c .before .before .before .before .kind .given .1) (s .result) (s .ensures) (c .if1 .taken),
+      judged-sound (a .t) (a .part .now) (h .result) (c .before .before .before .before .kind .given .0 .0) (h .ensures .0) (c .before .before .before .before .kind .given .1) (s .result) (s .ensures) (c .if1 .taken),
       omega (arith, h .ensures .0 .start-fits),
       omega (arith, h .ensures .0 .tail-fits),
       h .ensures .1 .plans,
@@ -45,7 +45,7 @@ returns-2 : tie.Need-returns-2
 returns-2 c =
     let a = c .before .before .before .before .before .before .before .before .before .before .before .before .before .before .args in
     let s = c .before .before .sound in (
-      judged-unsound (a .d) (a .part .now) (c .unsound .result) (c .unsound .ensures) (unsound-by (a .d) (a .part .now) _ (s .result) (s .ensures) (c .before .if1 .left)),
+      judged-unsound (a .t) (a .part .now) (c .unsound .result) (c .unsound .ensures) (unsound-by (a .t) (a .part .now) _ (s .result) (s .ensures) (c .before .if1 .left)),
       rw (c .unsound .ensures) (omega arith),
       rw (c .unsound .ensures) (omega arith),
       c .before .before .before .before .before .before .before .before .before .record-by .ensures .1 .plans,
@@ -58,7 +58,7 @@ returns-3 : tie.Need-returns-3
 returns-3 c =
     let a = c .before .before .before .before .before .before .before .before .before .before .args in
     let h = c .before .before .before .before .before .record-by in (
-      judged-unsound (a .d) (a .part .now) (c .unsound2 .result) (c .unsound2 .ensures) (record-none (a .part .now) (h .result) (h .ensures .0) (c .before .enum-told .given .1) (a .d)),
+      judged-unsound (a .t) (a .part .now) (c .unsound2 .result) (c .unsound2 .ensures) (record-none (a .part .now) (h .result) (h .ensures .0) (c .before .enum-told .given .1) (a .t)),
       rw (c .unsound2 .ensures) (omega arith),
       rw (c .unsound2 .ensures) (omega arith),
       h .ensures .1 .plans,

@@ -27,12 +27,12 @@ returns : tie.Need-returns
 returns c =
     let a = c .before .before .before .before .before .before .args in
     let j = c .before .before .before .j .given .0 .0 in
-    rw (c .before .number .ensures, c .number2 .ensures) (kind-same (a .d) (bitAt (a .o)) j (a .k) (subst (KindOf (a .d) (bitAt (a .o))) (c .before .before .before .j .given .1) (c .before .before .before .before .before .kind-of .ensures)))
+    rw (c .before .number .ensures, c .number2 .ensures) (kind-same (a .t .direction) (bitAt (a .o)) j (a .k) (subst (KindOf (a .t) (bitAt (a .o))) (c .before .before .before .j .given .1) (c .before .before .before .before .before .kind-of .ensures)))
 
 returns-2 : tie.Need-returns-2
 returns-2 c =
     let a = c .before .before .before .args in
-    sym (subst (KindOf (a .d) (bitAt (a .o))) (c .enum-told .given .1) (c .before .before .kind-of .ensures) (a .k))
+    sym (subst (KindOf (a .t) (bitAt (a .o))) (c .enum-told .given .1) (c .before .before .kind-of .ensures) (a .k))
 
 pub is-kind-spec : {M : Type 1} → statement M
 is-kind-spec =

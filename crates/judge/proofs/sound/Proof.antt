@@ -15,7 +15,7 @@ returns : tie.Need-returns
 returns c =
     let s = c .before .before .before .before .before .before in
     let a = s .args in
-    sound-kind (a .d) (a .part .now) (a .r) (a .k) (s .pre .0) (s .pre .1) (sym (c .before .is-kind .ensures) ∙ not-true (c .before .is-kind .result) (c .if1 .taken))
+    sound-kind (a .t) (a .part .now) (a .r) (a .k) (s .pre .0) (s .pre .1) (sym (c .before .is-kind .ensures) ∙ not-true (c .before .is-kind .result) (c .if1 .taken))
 
 least-tail-requires : tie.Need-least-tail-requires
 least-tail-requires c κs = search needs
@@ -24,7 +24,7 @@ returns-2 : tie.Need-returns-2
 returns-2 c =
     let s = c .before .before .before .before .before .before .before .before in
     let a = s .args in
-    sound-tail (a .d) (a .part .now) (a .r) (a .k) (s .pre .0) (s .pre .1) (omega (arith, c .before .least-tail .ensures, c .if2 .taken))
+    sound-tail (a .t) (a .part .now) (a .r) (a .k) (s .pre .0) (s .pre .1) (omega (arith, c .before .least-tail .ensures, c .if2 .taken))
 
 frame-requires : tie.Need-frame-requires
 frame-requires c κs = search needs
@@ -40,7 +40,7 @@ returns-3 c =
     let s = c .before .before .before .before .before .before .before .before .before .before in
     let a = s .args in
     let kind = c .before .before .before .before .before .is-kind in
-    sound-record (a .d) (a .part .now) (a .r) (a .k) (s .pre .0) (s .pre .1) (sym (kind .ensures) ∙ not-false (kind .result) (c .before .before .before .before .if1 .left)) (omega (arith, c .before .before .before .least-tail .ensures, c .before .before .if2 .left)) (c .before .frame .result) (c .before .frame .ensures) (c .is-record .result) (c .is-record .ensures)
+    sound-record (a .t) (a .part .now) (a .r) (a .k) (s .pre .0) (s .pre .1) (sym (kind .ensures) ∙ not-false (kind .result) (c .before .before .before .before .if1 .left)) (omega (arith, c .before .before .before .least-tail .ensures, c .before .before .if2 .left)) (c .before .frame .result) (c .before .frame .ensures) (c .is-record .result) (c .is-record .ensures)
 
 pub sound-spec : {M : Type 1} → statement M
 sound-spec =

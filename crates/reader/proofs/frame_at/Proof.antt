@@ -35,8 +35,8 @@ returns c =
     let the-octets = c .before .before .before .before .before .before .before .octets in
     let the-kind-of = c .before .before .before .before .before .before .kind-of in
     let the-k = c .before .before .before .before .k in (
-      seen-gap (captureOf (a .s .now) (a .n) (a .d)) (a .x) (a .p) (c .gap .result) (c .gap .ensures)
-          (none-past (bitAt (a .s .now)) (a .n) (a .d) (a .x) (a .p) (the-octets .result) (the-octets .ensures) (the-k .given .0 .0) (kind-is (a .d) (bitAt (the-octets .result)) (the-kind-of .result) (the-k .given .0 .0) (the-kind-of .ensures) (the-k .given .1)) (omega (arith, c .before .before .body .ensures))),
+      seen-gap (captureOf (a .s .now) (a .n) (a .t)) (a .x) (a .p) (c .gap .result) (c .gap .ensures)
+          (none-past (bitAt (a .s .now)) (a .n) (a .t) (a .x) (a .p) (the-octets .result) (the-octets .ensures) (the-k .given .0 .0) (kind-is (a .t) (bitAt (the-octets .result)) (the-kind-of .result) (the-k .given .0 .0) (the-kind-of .ensures) (the-k .given .1)) (omega (arith, c .before .before .body .ensures))),
       c .before .before .before .before .before .before .before .before .before .before .pre .3,
     )
 
@@ -60,8 +60,8 @@ returns-2 c =
     let the-k = c .before .before .before .before .before .before .before .before .before .before .k in
     let the-verdict-in = c .before .before .before .before .before .verdict-in in
     let the-allowed-in = c .before .before .allowed-in in (
-      seen-gap (captureOf (a .s .now) (a .n) (a .d)) (a .x) (a .p) (c .gap2 .result) (c .gap2 .ensures)
-          (none-refused (bitAt (a .s .now)) (a .n) (a .d) (a .x) (a .p) (the-octets .result) (the-octets .ensures) (the-k .given .0 .0) (kind-is (a .d) (bitAt (the-octets .result)) (the-kind-of .result) (the-k .given .0 .0) (the-kind-of .ensures) (the-k .given .1))
+      seen-gap (captureOf (a .s .now) (a .n) (a .t)) (a .x) (a .p) (c .gap2 .result) (c .gap2 .ensures)
+          (none-refused (bitAt (a .s .now)) (a .n) (a .t) (a .x) (a .p) (the-octets .result) (the-octets .ensures) (the-k .given .0 .0) (kind-is (a .t) (bitAt (the-octets .result)) (the-kind-of .result) (the-k .given .0 .0) (the-kind-of .ensures) (the-k .given .1))
           (the-verdict-in .result) (the-allowed-in .result) (the-verdict-in .ensures .0) (the-allowed-in .ensures) (c .before .if2 .taken)),
       the-verdict-in .ensures .1,
     )
@@ -85,9 +85,9 @@ returns-3 c =
     let the-kind-of = c .before .before .before .before .before .before .before .before .before .before .before .before .before .before .before .kind-of in
     let the-k = c .before .before .before .before .before .before .before .before .before .before .before .before .before .k in
     let the-tail-at = c .before .before .before .tail-at in (
-      seen-gap (captureOf (a .s .now) (a .n) (a .d)) (a .x) (a .p) (c .gap3 .result) (c .gap3 .ensures)
-          (none-short (bitAt (a .s .now)) (a .n) (a .d) (a .x) (a .p) (the-octets .result) (the-octets .ensures) (the-k .given .0 .0) (kind-is (a .d) (bitAt (the-octets .result)) (the-kind-of .result) (the-k .given .0 .0) (the-kind-of .ensures) (the-k .given .1))
-          (the-tail-at .result) (subst (λ (q : ℕ). Tail (captureOf (a .s .now) (a .n) (a .d)) q (the-tail-at .result)) (ap (λ (b : ℕ). a .p + b) (c .before .before .before .before .before .before .before .before .before .before .before .body .ensures)) (the-tail-at .ensures (a .d))) (omega (arith, c .before .before .least-tail .ensures))),
+      seen-gap (captureOf (a .s .now) (a .n) (a .t)) (a .x) (a .p) (c .gap3 .result) (c .gap3 .ensures)
+          (none-short (bitAt (a .s .now)) (a .n) (a .t) (a .x) (a .p) (the-octets .result) (the-octets .ensures) (the-k .given .0 .0) (kind-is (a .t) (bitAt (the-octets .result)) (the-kind-of .result) (the-k .given .0 .0) (the-kind-of .ensures) (the-k .given .1))
+          (the-tail-at .result) (subst (λ (q : ℕ). Tail (captureOf (a .s .now) (a .n) (a .t)) q (the-tail-at .result)) (ap (λ (b : ℕ). a .p + b) (c .before .before .before .before .before .before .before .before .before .before .before .body .ensures)) (the-tail-at .ensures (a .t))) (omega (arith, c .before .before .least-tail .ensures))),
       c .before .before .before .before .before .before .before .before .verdict-in .ensures .1,
     )
 
@@ -110,9 +110,9 @@ returns-4 c =
     let the-verdict-in = c .before .before .before .before .before .before .before .verdict-in in
     let the-allowed-in = c .before .before .before .before .allowed-in in
     let the-tail-at = c .before .before .tail-at in (
-      seen-due (bitAt (a .s .now)) (a .n) (a .d) (a .x) (a .p) (the-octets .result) (the-octets .ensures) (the-k .given .0 .0) (kind-is (a .d) (bitAt (the-octets .result)) (the-kind-of .result) (the-k .given .0 .0) (the-kind-of .ensures) (the-k .given .1))
+      seen-due (bitAt (a .s .now)) (a .n) (a .t) (a .x) (a .p) (the-octets .result) (the-octets .ensures) (the-k .given .0 .0) (kind-is (a .t) (bitAt (the-octets .result)) (the-kind-of .result) (the-k .given .0 .0) (the-kind-of .ensures) (the-k .given .1))
           (the-verdict-in .result) (the-tail-at .result) (the-allowed-in .result) (omega (arith, the-body .ensures)) (the-verdict-in .ensures .0) (the-allowed-in .ensures) (c .before .before .before .if2 .left)
-          (subst (λ (q : ℕ). Tail (captureOf (a .s .now) (a .n) (a .d)) q (the-tail-at .result)) (ap (λ (b : ℕ). a .p + b) (the-body .ensures)) (the-tail-at .ensures (a .d))) (omega (arith, c .before .least-tail .ensures)),
+          (subst (λ (q : ℕ). Tail (captureOf (a .s .now) (a .n) (a .t)) q (the-tail-at .result)) (ap (λ (b : ℕ). a .p + b) (the-body .ensures)) (the-tail-at .ensures (a .t))) (omega (arith, c .before .least-tail .ensures)),
       the-verdict-in .ensures .1,
     )
 
@@ -121,8 +121,8 @@ returns-5 c =
     let a = c .before .before .before .before .before .before .before .args in
     let the-octets = c .before .before .before .before .octets in
     let the-kind-of = c .before .before .before .kind-of in (
-      seen-gap (captureOf (a .s .now) (a .n) (a .d)) (a .x) (a .p) (c .gap4 .result) (c .gap4 .ensures)
-          (none-of-no-kind (bitAt (a .s .now)) (a .n) (a .d) (a .x) (a .p) (the-octets .result) (the-octets .ensures) (kind-no (a .d) (bitAt (the-octets .result)) (the-kind-of .result) (the-kind-of .ensures) (c .before .enum-told .given .1))),
+      seen-gap (captureOf (a .s .now) (a .n) (a .t)) (a .x) (a .p) (c .gap4 .result) (c .gap4 .ensures)
+          (none-of-no-kind (bitAt (a .s .now)) (a .n) (a .t) (a .x) (a .p) (the-octets .result) (the-octets .ensures) (kind-no (a .t) (bitAt (the-octets .result)) (the-kind-of .result) (the-kind-of .ensures) (c .before .enum-told .given .1))),
       c .before .before .before .before .before .before .before .pre .3,
     )
 

@@ -46,14 +46,14 @@ returns c =
     let a = c .before .before .before .before .before .before .args in
     let l = c .before .before .before .places in
     let r = c .before .sync-from in
-    (gap-all (captureOf (a .s .now) (a .n) (a .d)) (a .from) (r .result) (passed-over (captureOf (a .s .now) (a .n) (a .d)) (a .from) (l .q) (l .inv .2) (a .n - 158) (r .result) (r .ensures)) (omega (arith, r .ensures .from)) (omega (arith, r .ensures .within)) (omega arith), l .inv .3)
+    (gap-all (captureOf (a .s .now) (a .n) (a .t)) (a .from) (r .result) (passed-over (captureOf (a .s .now) (a .n) (a .t)) (a .from) (l .q) (l .inv .2) (a .n - 158) (r .result) (r .ensures)) (omega (arith, r .ensures .from)) (omega (arith, r .ensures .within)) (omega arith), l .inv .3)
 
 loop-holds : tie.Need-loop-holds Inv-loop μ-loop Inv-places μ-places
 loop-holds c =
     let a = c .before .before .before .before .before .before .args in
     let l = c .before .before .before .places in
     let r = c .before .sync-from in
-    (refl, omega arith, omega (arith, r .ensures .from), omega arith, passed-over (captureOf (a .s .now) (a .n) (a .d)) (a .from) (l .q) (l .inv .2) (a .n - 158) (r .result) (r .ensures))
+    (refl, omega arith, omega (arith, r .ensures .from), omega arith, passed-over (captureOf (a .s .now) (a .n) (a .t)) (a .from) (l .q) (l .inv .2) (a .n - 158) (r .result) (r .ensures))
 
 array-read-place : tie.Need-array-read-place Inv-loop μ-loop Inv-places μ-places
 array-read-place c = search needs
@@ -77,7 +77,7 @@ places-again : tie.Need-places-again Inv-loop μ-loop Inv-places μ-places
 places-again c =
     let a = c .before .before .before .before .before .before .before .before .before .before .args in
     let l = c .before .before .before .loop in
-    (omega arith, omega arith, passed-more (captureOf (a .s .now) (a .n) (a .d)) (a .from) (l .q) (l .inv .4) (none-differs (captureOf (a .s .now) (a .n) (a .d)) (l .q) (l .j) (c .before .bit .result) (omega arith) (c .before .bit .ensures) (c .if2 .taken)), c .before .before .before .before .before .before .before .places .inv .3)
+    (omega arith, omega arith, passed-more (captureOf (a .s .now) (a .n) (a .t)) (a .from) (l .q) (l .inv .4) (none-differs (captureOf (a .s .now) (a .n) (a .t)) (l .q) (l .j) (c .before .bit .result) (omega arith) (c .before .bit .ensures) (c .if2 .taken)), c .before .before .before .before .before .before .before .places .inv .3)
 
 add-j : tie.Need-add-j Inv-loop μ-loop Inv-places μ-places
 add-j c = search needs
@@ -99,7 +99,7 @@ returns-2 c =
     let a = c .before .before .before .before .before .before .before .before .before .before .before .before .before .args in
     let l = c .before .before .before .before .before .before .loop in
     let s = c .before .before .before .starts-at in
-    (gap-found (captureOf (a .s .now) (a .n) (a .d)) (a .from) (l .q) (l .inv .4) (omega arith) (omega arith) (s .result) (s .ensures .0) (c .if3 .taken), s .ensures .1)
+    (gap-found (captureOf (a .s .now) (a .n) (a .t)) (a .from) (l .q) (l .inv .4) (omega arith) (omega arith) (s .result) (s .ensures .0) (c .if3 .taken), s .ensures .1)
 
 add-q-2 : tie.Need-add-q-2 Inv-loop μ-loop Inv-places μ-places
 add-q-2 c = search needs
@@ -112,7 +112,7 @@ places-again-2 c =
     let a = c .before .before .before .before .before .before .before .before .before .before .before .before .before .args in
     let l = c .before .before .before .before .before .before .loop in
     let s = c .before .before .before .starts-at in
-    (omega arith, omega arith, passed-more (captureOf (a .s .now) (a .n) (a .d)) (a .from) (l .q) (l .inv .4) (not-starting (captureOf (a .s .now) (a .n) (a .d)) (l .q) (s .result) (s .ensures .0) (c .if3 .left)), s .ensures .1)
+    (omega arith, omega arith, passed-more (captureOf (a .s .now) (a .n) (a .t)) (a .from) (l .q) (l .inv .4) (not-starting (captureOf (a .s .now) (a .n) (a .t)) (l .q) (s .result) (s .ensures .0) (c .if3 .left)), s .ensures .1)
 
 same-length-3 : tie.Need-same-length-3 Inv-loop μ-loop Inv-places μ-places
 same-length-3 c = c .before .places .inv .3 .size ∙ sym (c .before .before .before .before .pre .3 .size)
@@ -121,7 +121,7 @@ returns-3 : tie.Need-returns-3 Inv-loop μ-loop Inv-places μ-places
 returns-3 c =
     let a = c .before .before .before .before .args in
     let l = c .before .places in
-    (gap-all (captureOf (a .s .now) (a .n) (a .d)) (a .from) (l .q) (l .inv .2) (omega arith) (omega arith) (omega arith), l .inv .3)
+    (gap-all (captureOf (a .s .now) (a .n) (a .t)) (a .from) (l .q) (l .inv .2) (omega arith) (omega arith) (omega arith), l .inv .3)
 
 pub gap-end-spec : {M : Type 1} → statement M
 gap-end-spec =

@@ -35,7 +35,7 @@ returns : tie.Need-returns
 returns c =
     let a = c .before .before .before .before .before .before .before .before .args in
     let seen = c .before .before .before .before .frame-at in
-    (item-frame (captureOf (a .s .now) (a .n) (a .d)) (a .c) (seen .result) (seen .ensures .0) (c .enum-told .given .0 .0) (c .enum-told .given .1), seen .ensures .1)
+    (item-frame (captureOf (a .s .now) (a .n) (a .t)) (a .c) (seen .result) (seen .ensures .0) (c .enum-told .given .0 .0) (c .enum-told .given .1), seen .ensures .1)
 
 same-length-2 : tie.Need-same-length-2
 same-length-2 c = search needs
@@ -45,7 +45,7 @@ returns-2 c =
     let a = c .before .before .before .before .before .before .before .before .before .before .before .before .before .args in
     let seen = c .before .before .before .before .before .before .before .before .before .frame-at in
     let end = c .before .before .before .gap-end in
-    (item-gap (captureOf (a .s .now) (a .n) (a .d)) (a .c) (seen .result) (seen .ensures .0) (c .before .before .before .before .before .enum-told2 .given .1) (end .result) (omega arith) (end .ensures .0) (c .gap .result) (c .gap .ensures), end .ensures .1)
+    (item-gap (captureOf (a .s .now) (a .n) (a .t)) (a .c) (seen .result) (seen .ensures .0) (c .before .before .before .before .before .enum-told2 .given .1) (end .result) (omega arith) (end .ensures .0) (c .gap .result) (c .gap .ensures), end .ensures .1)
 
 pub item-at-spec : {M : Type 1} → statement M
 item-at-spec =

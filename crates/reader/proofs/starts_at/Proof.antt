@@ -22,7 +22,7 @@ returns : tie.Need-returns
 returns c =
     let a = c .before .before .before .before .before .before .before .before .args in
     let seen = c .before .before .before .before .frame-at in
-    (start-seen (captureOf (a .s .now) (a .n) (a .d)) (a .q) (seen .result) (c .enum-told .given .0 .0) (seen .ensures .0) (c .enum-told .given .1), seen .ensures .1)
+    (start-seen (captureOf (a .s .now) (a .n) (a .t)) (a .q) (seen .result) (c .enum-told .given .0 .0) (seen .ensures .0) (c .enum-told .given .1), seen .ensures .1)
 
 same-length-2 : tie.Need-same-length-2
 same-length-2 c = search needs
@@ -31,7 +31,7 @@ returns-2 : tie.Need-returns-2
 returns-2 c =
     let a = c .before .before .before .before .before .before .before .before .args in
     let seen = c .before .before .before .before .frame-at in
-    (none-seen (captureOf (a .s .now) (a .n) (a .d)) (a .q) (seen .result) (seen .ensures .0) (c .enum-told2 .given .1), seen .ensures .1)
+    (none-seen (captureOf (a .s .now) (a .n) (a .t)) (a .q) (seen .result) (seen .ensures .0) (c .enum-told2 .given .1), seen .ensures .1)
 
 pub starts-at-spec : {M : Type 1} → statement M
 starts-at-spec =

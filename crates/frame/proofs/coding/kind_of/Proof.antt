@@ -19,8 +19,8 @@ words-of-requires c κs = search needs
 pattern-of-requires : tie.Need-pattern-of-requires
 pattern-of-requires c κs = search needs
 
-enum-known-t : tie.Need-enum-known-t
-enum-known-t c = search needs
+enum-known-p : tie.Need-enum-known-p
+enum-known-p c = search needs
 
 enum-told : tie.Need-enum-told
 enum-told c = search needs
@@ -46,40 +46,40 @@ enum-told-5 c = search needs
 returns : tie.Need-returns
 returns c =
     let a = c .before .before .before .before .before .before .before .before .before .args in
-    let p = c .before .before .before .before .before .before .pattern-of in
+    let s = c .before .before .before .before .before .before .pattern-of in
     let w = c .before .before .before .before .before .before .before .words-of in
-    let t = c .before .before .before .before .t in
-    kind-in (a .d) (bitAt (a .t1)) Hr (c .hr-kind .result) (sync-in (bitAt (a .t1)) (p .result) (t .given .0 .0) Hr (p .ensures (a .t1) (w .ensures)) (t .given .1) (c .before .enum-told .given .1)) (c .hr-kind .ensures (a .t1) (w .ensures))
+    let p = c .before .before .before .before .p in
+    kind-in (a .t) (bitAt (a .t1)) Hr (c .hr-kind .result) (sync-in (bitAt (a .t1)) (s .result) (p .given .0 .0) Hr (s .ensures (a .t1) (w .ensures)) (p .given .1) (c .before .enum-told .given .1)) (c .hr-kind .ensures (a .t1) (w .ensures))
 
 returns-2 : tie.Need-returns-2
 returns-2 c =
     let a = c .before .before .before .before .before .before .before .before .before .args in
-    let p = c .before .before .before .before .before .before .pattern-of in
+    let s = c .before .before .before .before .before .before .pattern-of in
     let w = c .before .before .before .before .before .before .before .words-of in
-    let t = c .before .before .before .before .t in
-    kind-in (a .d) (bitAt (a .t1)) Low (c .low-kind .result) (sync-in (bitAt (a .t1)) (p .result) (t .given .0 .0) Low (p .ensures (a .t1) (w .ensures)) (t .given .1) (c .before .enum-told2 .given .1)) (c .low-kind .ensures (a .t1) (w .ensures))
+    let p = c .before .before .before .before .p in
+    kind-in (a .t) (bitAt (a .t1)) Low (c .low-kind .result) (sync-in (bitAt (a .t1)) (s .result) (p .given .0 .0) Low (s .ensures (a .t1) (w .ensures)) (p .given .1) (c .before .enum-told2 .given .1)) (c .low-kind .ensures (a .t1) (w .ensures))
 
 returns-3 : tie.Need-returns-3
 returns-3 c =
     let a = c .before .before .before .before .before .before .before .before .args in
-    let p = c .before .before .before .before .before .pattern-of in
+    let s = c .before .before .before .before .before .pattern-of in
     let w = c .before .before .before .before .before .before .words-of in
-    let t = c .before .before .before .t in
-    kind-in (a .d) (bitAt (a .t1)) P670 (Is Amr670) (sync-in (bitAt (a .t1)) (p .result) (t .given .0 .0) P670 (p .ensures (a .t1) (w .ensures)) (t .given .1) (c .enum-told3 .given .1)) (refl, refl)
+    let p = c .before .before .before .p in
+    kind-in (a .t) (bitAt (a .t1)) P670 (Is Amr670) (sync-in (bitAt (a .t1)) (s .result) (p .given .0 .0) P670 (s .ensures (a .t1) (w .ensures)) (p .given .1) (c .enum-told3 .given .1)) (refl, refl)
 
 returns-4 : tie.Need-returns-4
 returns-4 c =
     let a = c .before .before .before .before .before .before .before .before .args in
-    let p = c .before .before .before .before .before .pattern-of in
+    let s = c .before .before .before .before .before .pattern-of in
     let w = c .before .before .before .before .before .before .words-of in
-    let t = c .before .before .before .t in
-    kind-in (a .d) (bitAt (a .t1)) P740 (Is Amr740) (sync-in (bitAt (a .t1)) (p .result) (t .given .0 .0) P740 (p .ensures (a .t1) (w .ensures)) (t .given .1) (c .enum-told4 .given .1)) (refl, refl)
+    let p = c .before .before .before .p in
+    kind-in (a .t) (bitAt (a .t1)) P740 (Is Amr740) (sync-in (bitAt (a .t1)) (s .result) (p .given .0 .0) P740 (s .ensures (a .t1) (w .ensures)) (p .given .1) (c .enum-told4 .given .1)) (refl, refl)
 
 returns-5 : tie.Need-returns-5
 returns-5 c =
     let a = c .before .before .before .before .before .args in
-    let p = c .before .before .pattern-of in
-    kind-nowhere (a .d) (bitAt (a .t1)) (sync-nowhere (bitAt (a .t1)) (p .result) (p .ensures (a .t1) (c .before .before .before .words-of .ensures)) (c .enum-told5 .given .1))
+    let s = c .before .before .pattern-of in
+    kind-nowhere (a .t) (bitAt (a .t1)) (sync-nowhere (bitAt (a .t1)) (s .result) (s .ensures (a .t1) (c .before .before .before .words-of .ensures)) (c .enum-told5 .given .1))
 
 pub kind-of-spec : {M : Type 1} → statement M
 kind-of-spec =
@@ -88,7 +88,7 @@ kind-of-spec =
     slice-aggregate-words-of
     words-of-requires
     pattern-of-requires
-    enum-known-t
+    enum-known-p
     enum-told
     hr-kind-requires
     enum-told-2
