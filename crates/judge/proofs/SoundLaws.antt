@@ -267,6 +267,13 @@ module _ (terms : Terms) (part : List ℕ) (r : Record) (k : Kind) (h : RecordBy
 pub judged-unsound : (terms : Terms) (part : List ℕ) (r : Record) → r ≡ unsoundRecord → Unsound terms part → Judged terms part r
 judged-unsound terms part r n u = subst (Judged terms part) (sym n) (refl, u)
 
+-- a record that is judged, by what it is
+pub judged-frame : (terms : Terms) (part : List ℕ) (r : Record) (k : Kind) → Judged terms part r → r .kind ≡ of.Frame k → (rest : List ℕ) × SoundAs terms part (frameBy r k) rest
+judged-frame terms part r k j e = subst (λ (i : RecordKind). JudgedBy terms part i r) e j .1
+
+pub judged-none : (terms : Terms) (part : List ℕ) (r : Record) → Judged terms part r → r .kind ≡ of.Unsound → Unsound terms part
+judged-none terms part r j e = subst (λ (i : RecordKind). JudgedBy terms part i r) e j .1
+
 pub unsound-by : (terms : Terms) (part : List ℕ) (f : Frame) (b : Bool) → SoundBy terms part f b → b ≡ false → Unsound terms part
 unsound-by terms part f b s t = subst (SoundBy terms part f) t s
 
