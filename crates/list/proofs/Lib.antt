@@ -2,4 +2,6 @@
 -- Assumes nothing.
 pub mod TextLaws
 pub mod RecordLaws
+pub mod RoomLaws
+pub mod PagingLaws
 pub mod ListLaws

@@ -1,175 +1,146 @@
--- The listing as a harvest: each page asked with the cursor that the last answered. No page is refused but the first, none with 4, and each but one at
--- the end moves on.
+-- The listing page by page: the lines of the pages so far are those of a stretch from the beginning, which at the end is the reading. And no second text fits.
 -- Assumes nothing.
-use mathlib.Core.Path.{_≡_, refl, sym, _∙_, ap}
-use mathlib.Core.Bool.{Bool, true, false, cond}
-use mathlib.Core.List.{List, [], _∷_, append-nil}
+use mathlib.Core.Path.{_≡_, refl, sym, _∙_, ap, subst}
+use mathlib.Core.List.{List, [], _∷_, _++_}
 use Prim.Native.Nat.{ℕ, zero, suc, _+_, _*_, _-_, _≤_, _<_}
 use native.Mathlib.Omega.{arith}
-use borrow.Author.Tests.{ltb-true}
-use lib.Dec.{lit<, ltb}
-use lib.ListN.{length, take}
-use lib.Seq.{length-take-le}
-use Rattle.io.specs.Counts.{Counts}
-use Rattle.reading.specs.Reading.{Cursor, Item, gap, frame, Obeys, over, overAll, Stretch, Reading}
-use Rattle.reading.proofs.ReadingLaws.{stretch-split}
-use Rattle.reading.proofs.ItemLaws as items
-use Rattle.channel.specs.Frames.{Capture, captureOf, Frame, rules}
-use Rattle.channel.proofs.FrameLaws.{sound}
-use Rattle.channel.proofs.ChannelLaws.{exists}
-use Rattle.record.specs.Record.{recordOf, records}
-use Rattle.record.proofs.RecordLaws.{record-length, size-le}
+use lib.ListN.{length, take, drop, getD, length-append}
+use lib.Seq.{take-all}
+use Rattle.reading.specs.Reading.{Cursor, Item, overAll, Stretch, Reading}
+use Rattle.reading.proofs.ReadingLaws.{over-append, stretch-join}
+use Rattle.channel.specs.Frames.{captureOf, Frame, rules, beginning}
+use Rattle.channel.proofs.ChannelLaws.{unique}
 use Rattle.bellrope.specs.declared.Answer.{Answer}
-use Rattle.bellrope.specs.Paging.{directionOf, cursorAt, refusalOf, refused, Page, firstLeft, taken, PagedBy, PageCall}
-use Rattle.bellrope.specs.Harvest.{Asked, Harvest, itemsOf}
-use Rattle.bellrope.proofs.CallLaws.{Admitted, admitted}
-use Rattle.bellrope.proofs.HarvestLaws.{Got, got, got-bytes, not-refused, progress, answered-good, harvest-is}
-use Rattle.list.specs.Line.{Fits, AllFit, Records, Counted}
-use Rattle.list.specs.Listing.{Listed}
+use Rattle.bellrope.specs.Paging.{directionOf, cursorAt}
+use Rattle.list.specs.Line.{refusalLine, linesOf, Put, Records, AllLined}
+use Rattle.list.specs.Listing.{numberOf, TextBy, Text, Listing, Listed}
+use Rattle.list.proofs.TextLaws.{put-none, put-put}
+use Rattle.list.proofs.RoomLaws.{lines-append, lines-short, all-fit}
+use Rattle.list.proofs.PagingLaws.{pageNumber, number-due, PageTaken}
 
--- the items of a capture of fewer than 2^32 bits fit their records, and each takes a bit at least
-module _ (w : Capture) (short : w .n < 4294967296) where
-  fits : (c : Cursor ℕ) (x : Item Frame) → Obeys rules w c x → Fits x
-  fits c (gap start span) o = (omega (arith, o .within), omega (arith, o .within))
-  fits c (frame f) o = (omega (arith, o .stands .at, o .stands .before), omega (arith, o .stands .tail .within))
-
-  all-fit : (c : Cursor ℕ) (xs : List (Item Frame)) → Stretch rules w c xs → AllFit xs
-  all-fit c [] s = tt
-  all-fit c (x ∷ xs) (o, s) = (fits c x o, all-fit (over rules c x) xs s)
-
-bit-each : (w : Capture) (c : Cursor ℕ) (xs : List (Item Frame)) → Stretch rules w c xs → c .position + length xs ≤ overAll rules c xs .position
-bit-each w c [] s = omega arith
-bit-each w c (x ∷ xs) (o, s) = omega (arith, items.later rules w (sound w) c x o, bit-each w (over rules c x) xs s)
-
--- a page that has room for the largest record is not refused with 4
-module _ (capture : List ℕ) (n direction position context most : ℕ) (buffer : List ℕ) (a : Answer) (after : List ℕ)
-    (call : PageCall capture n direction position context most buffer a after) (room : 31 ≤ length buffer) where
-  abbrev w : Capture
-  w = captureOf capture n (directionOf direction)
-
-  abbrev c : Cursor ℕ
-  c = cursorAt position context
-
-  pub number-is : a .number ≡ refusalOf (length capture) n direction position context most
-  number-is = by-number (refusalOf (length capture) n direction position context most) refl call
-    where
-      first-fits : Admitted (length capture) n direction position context most → Page w c most (length buffer) [] → position < n → ⊥
-      first-fits h p l = go (r .0) (r .1)
-        where
-          r : (xs : List (Item Frame)) × Reading rules w c xs
-          r = exists w c (h .inside)
-
-          go : (xs : List (Item Frame)) → Reading rules w c xs → ⊥
-          go [] (s, e) = omega arith
-          go (x ∷ xs) q =
-              let long : length (records (x ∷ [])) ≤ 31 = omega (arith, ap length (append-nil (recordOf x)), record-length x, size-le x) in
-              omega (arith, p .longest (x ∷ []) (xs, q) (h .some) (omega arith))
-
-      by-page : Admitted (length capture) n direction position context most → (xs : List (Item Frame)) → Page w c most (length buffer) xs
-          → a ≡ cond (firstLeft w c xs) (refused 4 position context) (taken c xs) → a .number ≡ 0
-      by-page h [] p e = by-test (ltb position n) refl e
-        where
-          by-test : (b : Bool) → ltb position n ≡ b → a ≡ cond b (refused 4 position context) (taken c []) → a .number ≡ 0
-          by-test true t e = absurd (first-fits h p (ltb-true position n t))
-          by-test false t e = ap (λ (b : Answer). b .number) e
-      by-page h (x ∷ xs) p e = ap (λ (b : Answer). b .number) e
-
-      by-number : (number : ℕ) → refusalOf (length capture) n direction position context most ≡ number → PagedBy number w c most buffer a after → a .number ≡ number
-      by-number zero e (xs, p, t, q) = by-page (admitted (length capture) n direction position context most 0 (sym e) refl) xs p t
-      by-number (suc number) e (t, q) = ap (λ (b : Answer). b .number) t
-
--- a listing under way: the cursor, and the lines printed
-pub record Ongoing (capture : List ℕ) (n direction position context lines : ℕ) : Type 0 where
-  pub same : refusalOf (length capture) n direction position context 4096 ≡ refusalOf (length capture) n direction 0 0 4096
+-- a listing under way: the cursor, and the lines of the items before it, which end at a place. Where the first page is refused there are none
+pub record Ongoing (capture : List ℕ) (n direction position context : ℕ) (before out : List ℕ) (end : ℕ) : Type 0 where
+  pub done : List (Item Frame)
+  pub stretch : Stretch rules (captureOf capture n (directionOf direction)) beginning done
+  pub moved : overAll rules beginning done ≡ cursorAt position context
+  pub put : Put before 0 (linesOf done) out end
+  pub same : pageNumber capture n direction position context ≡ pageNumber capture n direction 0 0
+  pub quiet : (pageNumber capture n direction 0 0 ≡ 0 → ⊥) → done ≡ []
   pub ahead : 0 < n → position < n
-  pub few : lines ≤ position
-  pub quiet : (refusalOf (length capture) n direction 0 0 4096 ≡ 0 → ⊥) → lines ≡ 0
-  pub joins : (rs : List Asked) → Harvest capture n direction position context rs → (all : List Asked) × Harvest capture n direction 0 0 all × (itemsOf all ≡ lines + itemsOf rs)
 
-pub begins : (capture : List ℕ) (n direction : ℕ) → Ongoing capture n direction 0 0 0
-begins capture n direction = record { same = refl; ahead = λ h. h; few = omega arith; quiet = λ h. refl; joins = λ rs h. (rs, h, omega arith) }
+pub begins : (capture : List ℕ) (n direction : ℕ) (out : List ℕ) → Ongoing capture n direction 0 0 out out 0
+begins capture n direction out =
+    record {
+      done = [];
+      stretch = tt;
+      moved = refl;
+      put = put-none out 0 (omega arith);
+      same = refl;
+      quiet = λ h. refl;
+      ahead = λ h. h;
+    }
 
-module _ (capture : List ℕ) (n direction position context : ℕ) (buffer : List ℕ) (a : Answer) (after : List ℕ)
-    (call : PageCall capture n direction position context 4096 buffer a after) (lines : ℕ) (now : Ongoing capture n direction position context lines) where
+-- the text by its number
+module _ (capture : List ℕ) (direction number : ℕ) (due : number ≡ pageNumber capture (8 * length capture) direction 0 0) where
+  text-refused : (number ≡ 0 → ⊥) → Text capture direction (refusalLine number)
+  text-refused z = subst (λ (k : ℕ). TextBy k capture direction (refusalLine number)) (due ∙ number-due capture direction) (go number z)
+    where
+      go : (k : ℕ) → (k ≡ 0 → ⊥) → TextBy k capture direction (refusalLine k)
+      go zero z = absurd (z refl)
+      go (suc k) z = refl
+
+  text-taken : number ≡ 0 → (xs : List (Item Frame)) → Reading rules (captureOf capture (8 * length capture) (directionOf direction)) beginning xs → Text capture direction (linesOf xs)
+  text-taken z xs r = subst (λ (k : ℕ). TextBy k capture direction (linesOf xs)) (sym z ∙ due ∙ number-due capture direction) (xs, r, refl)
+
+module _ (capture : List ℕ) (direction position context : ℕ) (before out : List ℕ) (end : ℕ) (now : Ongoing capture (8 * length capture) direction position context before out end) where
   -- a refusal
-  pub refused-listing : n ≡ 8 * length capture → 31 ≤ length buffer → (a .number ≡ 0 → ⊥) → Listed capture direction (a .number) lines
-  refused-listing whole room z =
-      let e : a .number ≡ refusalOf (length capture) n direction 0 0 4096 = number-is capture n direction position context 4096 buffer a after call room ∙ now .same in
-      record {
-        due = rw whole at e;
-        whole = λ q xs r. absurd (z q);
-        alone = λ q. now .quiet (λ y. z (e ∙ y));
-      }
+  pub refused-listing : (number : ℕ) (after : List ℕ) (behind : ℕ) → number ≡ pageNumber capture (8 * length capture) direction position context → (number ≡ 0 → ⊥)
+      → Put out 0 (refusalLine number) after behind → Listed (Text capture direction) before after behind
+  refused-listing number after behind e z p =
+      let due : number ≡ pageNumber capture (8 * length capture) direction 0 0 = e ∙ now .same in
+      let untouched : out ≡ before = now .put .is ∙ ap (λ (d : List (Item Frame)). take 0 before ++ linesOf d ++ drop (0 + length (linesOf d)) before) (now .quiet (λ q. z (due ∙ q))) in
+      record { text = refusalLine number; is = text-refused capture direction number due z; put = rw untouched at p }
 
-  module _ (taken-up : a .number ≡ 0) where
-    the-page : Got (captureOf capture n (directionOf direction)) (cursorAt position context) 4096 buffer a after
-    the-page = got capture n direction position context 4096 buffer a after call taken-up
+  module _ (a : Answer) (buffer : List ℕ) (page : PageTaken capture (8 * length capture) direction position context a buffer) where
+    -- the items so far, with those of the page
+    items : List (Item Frame)
+    items = now .done ++ page .items
 
-    stretch : Stretch rules (captureOf capture n (directionOf direction)) (cursorAt position context) (the-page .page)
-    stretch = let (ys, r) = the-page .longest .leads in stretch-split rules (captureOf capture n (directionOf direction)) (cursorAt position context) (the-page .page) ys (r .0) .0
+    whole : Stretch rules (captureOf capture (8 * length capture) (directionOf direction)) beginning items
+    unfolding items
+    whole =
+        stretch-join rules (captureOf capture (8 * length capture) (directionOf direction)) beginning (now .done) (page .items) (now .stretch)
+        (rw (now .moved) (page .stretch))
 
-    -- the bytes answered are within the buffer, and are records
-    pub bytes-within : length after ≡ length buffer → Counts (a .bytes) after
-    bytes-within e =
-        let h : a .bytes ≤ length after = omega (arith, ap (λ (b : Answer). b .bytes) (the-page .answered), the-page .longest .fits) in
-        (h, sym (length-take-le (a .bytes) after h))
+    moved : overAll rules beginning items ≡ cursorAt (a .position) (a .context)
+    unfolding items
+    moved = over-append rules (captureOf capture (8 * length capture) (directionOf direction)) beginning (now .done) (page .items) ∙ ap (λ (c : Cursor ℕ). overAll rules c (page .items)) (now .moved) ∙ page .moved
 
-    pub page-records : n < 4294967296 → Records (take (a .bytes) after)
-    unfolding the-page
-    page-records h =
+    -- there is room for their lines
+    pub page-records : length capture ≤ 65538 → 524544 ≤ length out → Records (take (a .bytes) buffer) end (length out)
+    unfolding items
+    page-records short long =
         record {
-          items = the-page .page;
-          fit = all-fit (captureOf capture n (directionOf direction)) h (cursorAt position context) (the-page .page) stretch;
-          are = got-bytes capture n direction position context 4096 buffer a after call taken-up;
+          items = page .items;
+          fit = all-fit (captureOf capture (8 * length capture) (directionOf direction)) (omega arith) (cursorAt position context) (page .items) (page .stretch);
+          are = page .bytes;
+          room =
+              omega
+              (arith, now .put .ends, page .inside, ap (λ (c : Cursor ℕ). c .position) moved, ap length (lines-append (now .done) (page .items)), length-append (linesOf (now .done)) (linesOf (page .items)), lines-short (captureOf capture (8 * length capture) (directionOf direction)) beginning items whole);
         }
 
-    module _ (printed : ℕ) (counted : Counted (take (a .bytes) after) printed) where
-      items-are : printed ≡ a .items
-      unfolding the-page
-      items-are = counted (the-page .page) (got-bytes capture n direction position context 4096 buffer a after call taken-up) ∙ sym (ap (λ (b : Answer). b .items) (the-page .answered))
+    first-taken : pageNumber capture (8 * length capture) direction 0 0 ≡ 0
+    first-taken = sym (now .same) ∙ page .asked
 
-      few-more : lines + printed ≤ a .position
-      few-more =
-          omega
-          (arith, now .few, items-are, ap (λ (b : Answer). b .items) (the-page .answered), ap (λ (b : Answer). b .position) (the-page .answered), bit-each (captureOf capture n (directionOf direction)) (cursorAt position context) (the-page .page) stretch)
-
-      one-more : (rs : List Asked) → Harvest capture n direction (a .position) (a .context) rs
-          → (all : List Asked) × Harvest capture n direction 0 0 all × (itemsOf all ≡ lines + printed + itemsOf rs)
-      one-more rs h =
-          let (all, b, e) = now .joins (record { most = 4096; buffer = buffer; answer = a; after = after } ∷ rs) (call, taken-up, h) in
-          (all, b, omega (arith, e, items-are))
-
-      first-taken : refusalOf (length capture) n direction 0 0 4096 ≡ 0
-      first-taken = sym (now .same) ∙ not-refused capture n direction position context 4096 buffer a after call taken-up
+    module _ (short : length capture ≤ 65538) (after : List ℕ) (behind : ℕ) (lined : AllLined (take (a .bytes) buffer) out end after behind) where
+      put-all : Put before 0 (linesOf items) after behind
+      unfolding items
+      put-all =
+          rw (lines-append (now .done) (page .items))
+          (put-put (now .put) (lined (page .items) (all-fit (captureOf capture (8 * length capture) (directionOf direction)) (omega arith) (cursorAt position context) (page .items) (page .stretch)) (page .bytes)))
 
       -- the next page is asked
-      pub goes-on : a .position < n → Ongoing capture n direction (a .position) (a .context) (lines + printed)
+      pub goes-on : a .position < 8 * length capture → Ongoing capture (8 * length capture) direction (a .position) (a .context) before after behind
       goes-on h =
           record {
-            same = answered-good capture n direction position context 4096 buffer a after call taken-up 4096 (lit< tt) ∙ sym first-taken;
-            ahead = λ q. h;
-            few = few-more;
+            done = items;
+            stretch = whole;
+            moved = moved;
+            put = put-all;
+            same = page .answered ∙ sym first-taken;
             quiet = λ q. absurd (q first-taken);
-            joins = one-more;
+            ahead = λ q. h;
           }
-
-      -- and begins further on
-      pub moves : a .position < n → position < a .position
-      moves h = progress capture n direction position context 4096 buffer a after call taken-up (now .ahead (omega arith)) .1
-
-      -- no lines are more than there are bits
-      pub few-enough : lines + printed ≤ n
-      few-enough =
-          omega
-          (arith, few-more, admitted (length capture) n direction (a .position) (a .context) 4096 0 (sym (answered-good capture n direction position context 4096 buffer a after call taken-up 4096 (lit< tt))) refl .inside)
 
       -- the end
-      pub listed : n ≡ 8 * length capture → n ≤ a .position → Listed capture direction 0 (lines + printed)
-      listed whole h =
-          let inside = admitted (length capture) n direction (a .position) (a .context) 4096 0 (sym (answered-good capture n direction position context 4096 buffer a after call taken-up 4096 (lit< tt))) refl .inside in
-          let (all, b, e) = one-more [] (omega arith) in
+      pub listed : 8 * length capture ≤ a .position → Listed (Text capture direction) before after behind
+      listed h =
           record {
-            due = rw whole at (sym first-taken);
-            whole = λ q xs r. omega (arith, e, harvest-is capture n direction 0 0 all xs b (rw whole r) .1);
-            alone = λ q. absurd (q refl);
+            text = linesOf items;
+            is = text-taken capture direction 0 (sym first-taken) refl items (whole, omega (arith, page .inside, ap (λ (c : Cursor ℕ). c .position) moved));
+            put = put-all;
           }
+
+-- the text for some input, by its first byte and the rest
+pub without-direction : (input : List ℕ) → length input ≡ 0 → Listing input (refusalLine 1)
+without-direction [] e = refl
+without-direction (d ∷ capture) e = absurd (omega arith)
+
+pub with-direction : (input text : List ℕ) → (length input ≡ 0 → ⊥) → Text (take (length input - 1) (drop 1 input)) (getD input 0 0) text → Listing input text
+with-direction [] text z t = absurd (z refl)
+with-direction (d ∷ capture) text z t = subst (λ (s : List ℕ). Text s d text) (take-all (length (d ∷ capture) - 1) capture (omega arith)) t
+
+-- one text at most is the listing of some input
+pub one-text : (input s t : List ℕ) → Listing input s → Listing input t → s ≡ t
+one-text [] s t p q = p ∙ sym q
+one-text (direction ∷ capture) s t p q = go (numberOf capture direction) p q
+  where
+    go : (number : ℕ) → TextBy number capture direction s → TextBy number capture direction t → s ≡ t
+    go zero (xs, r, e) (ys, u, f) = e ∙ ap linesOf (unique (captureOf capture (8 * length capture) (directionOf direction)) beginning xs ys r u) ∙ sym f
+    go (suc number) e f = e ∙ sym f
+
+-- and the buffer after it, with the place where the text ends, is one
+pub one-listing : (input before after last : List ℕ) (end stop : ℕ) → Listed (Listing input) before after end → Listed (Listing input) before last stop → (after ≡ last) × (end ≡ stop)
+one-listing input before after last end stop p q =
+    let e : p .text ≡ q .text = one-text input (p .text) (q .text) (p .is) (q .is) in
+    (p .put .is ∙ ap (λ (t : List ℕ). take 0 before ++ t ++ drop (0 + length t) before) e ∙ sym (q .put .is), p .put .ends ∙ ap (λ (t : List ℕ). 0 + length t) e ∙ sym (q .put .ends))

@@ -1,8 +1,8 @@
--- A record taken apart: its numbers, its size by its first byte, and the line of its item.
+-- A record taken apart: its numbers, its size by its first byte, and the line of its item; and a page, record by record.
 -- Assumes nothing.
 use mathlib.Core.Path.{_≡_, refl, sym, _∙_, ap}
-use mathlib.Core.List.{List, [], _∷_, _++_}
-use Prim.Native.Nat.{ℕ, suc, _+_, _-_, _≤_, _<_}
+use mathlib.Core.List.{List, [], _∷_, _++_, append-assoc, append-nil}
+use Prim.Native.Nat.{ℕ, _+_, _-_, _≤_, _<_}
 use native.Mathlib.Omega.{arith}
 use lib.Dec.{lit<}
 use lib.ListN.{length, take, drop, getD, length-append, length-drop}
@@ -14,7 +14,8 @@ use Rattle.channel.specs.Kinds.{kindNo}
 use Rattle.channel.specs.Frames.{Frame}
 use Rattle.record.specs.Record.{numberAt, recordOf, records, sizeOf, dLength}
 use Rattle.record.proofs.RecordLaws.{four-bytes, record-length, size-pos}
-use Rattle.list.specs.Line.{spaced, Ends, lineOf, sizes, Fits, AllFit, Recorded, Lined, LineLong, Records, Counted}
+use Rattle.list.specs.Line.{spaced, lineOf, linesOf, Put, sizes, Fits, AllFit, Recorded, Lined, Records, AllLined}
+use Rattle.list.proofs.TextLaws.{put-none, put-put}
 
 -- a kind's number and the size of its record
 kind-some : (k : Kind) → 0 < kindNo k
@@ -75,105 +76,118 @@ twelve bytes r h = go (r .item) (r .is)
     go (frame f) e = omega (arith, ap length e ∙ record-length (frame f))
 
 -- the line by the numbers that are read of a record
-module _ (bytes out : List ℕ) (end start span : ℕ) (at₁ : start ≡ numberAt bytes 1) (at₅ : span ≡ numberAt bytes 5) where
-  pub lined-gap : getD bytes 0 0 ≡ 0 → Ends out end (71 ∷ spaced (start ∷ span ∷ [])) → Lined bytes out end
+module _ (bytes before after : List ℕ) (at end start span : ℕ) (at₁ : start ≡ numberAt bytes 1) (at₅ : span ≡ numberAt bytes 5) where
+  pub lined-gap : getD bytes 0 0 ≡ 0 → Put before at (71 ∷ spaced (start ∷ span ∷ [])) after end → Lined bytes before at after end
   unfolding recordOf
-  lined-gap z e = record { within = e .within; is = go }
-    where
-      go : (x : Item Frame) → Fits x → bytes ≡ recordOf x → take end out ≡ lineOf x
-      go (gap s l) f b =
-          let p : start ≡ s = at₁ ∙ ap (λ (y : List ℕ). numberAt y 1) b ∙ four-bytes s (f .0) in
-          let q : span ≡ l = at₅ ∙ ap (λ (y : List ℕ). numberAt y 5) b ∙ four-bytes l (f .1) in
-          rw (sym p, sym q) (e .is)
-      go (frame g) f b = absurd (omega (arith, ap (λ (y : List ℕ). getD y 0 0) b, kind-some (g .kind)))
+  lined-gap z e (gap s l) f b =
+      let p : start ≡ s = at₁ ∙ ap (λ (y : List ℕ). numberAt y 1) b ∙ four-bytes s (f .0) in
+      let q : span ≡ l = at₅ ∙ ap (λ (y : List ℕ). numberAt y 5) b ∙ four-bytes l (f .1) in
+      rw (sym p, sym q) e
+  lined-gap z e (frame g) f b = absurd (omega (arith, ap (λ (y : List ℕ). getD y 0 0) b, kind-some (g .kind)))
 
   pub lined-frame : (kind verdict : ℕ) → kind ≡ getD bytes 0 0 → verdict ≡ getD bytes 11 0 → (getD bytes 0 0 ≡ 0 → ⊥)
-      → Ends out end (70 ∷ spaced (kind ∷ start ∷ span ∷ verdict ∷ [])) → Lined bytes out end
+      → Put before at (70 ∷ spaced (kind ∷ start ∷ span ∷ verdict ∷ [])) after end → Lined bytes before at after end
   unfolding recordOf
-  lined-frame kind verdict at₀ at₁₁ z e = record { within = e .within; is = go }
-    where
-      go : (x : Item Frame) → Fits x → bytes ≡ recordOf x → take end out ≡ lineOf x
-      go (gap s l) f b = absurd (z (ap (λ (y : List ℕ). getD y 0 0) b))
-      go (frame g) f b =
-          let k : kind ≡ kindNo (g .kind) = at₀ ∙ ap (λ (y : List ℕ). getD y 0 0) b in
-          let p : start ≡ g .start = at₁ ∙ ap (λ (y : List ℕ). numberAt y 1) b ∙ four-bytes (g .start) (f .0) in
-          let q : span ≡ g .tail = at₅ ∙ ap (λ (y : List ℕ). numberAt y 5) b ∙ four-bytes (g .tail) (f .1) in
-          let v : verdict ≡ g .verdict = at₁₁ ∙ ap (λ (y : List ℕ). getD y 11 0) b in
-          rw (sym k, sym p, sym q, sym v) (e .is)
+  lined-frame kind verdict at₀ at₁₁ z e (gap s l) f b = absurd (z (ap (λ (y : List ℕ). getD y 0 0) b))
+  lined-frame kind verdict at₀ at₁₁ z e (frame g) f b =
+      let k : kind ≡ kindNo (g .kind) = at₀ ∙ ap (λ (y : List ℕ). getD y 0 0) b in
+      let p : start ≡ g .start = at₁ ∙ ap (λ (y : List ℕ). numberAt y 1) b ∙ four-bytes (g .start) (f .0) in
+      let q : span ≡ g .tail = at₅ ∙ ap (λ (y : List ℕ). numberAt y 5) b ∙ four-bytes (g .tail) (f .1) in
+      let v : verdict ≡ g .verdict = at₁₁ ∙ ap (λ (y : List ℕ). getD y 11 0) b in
+      rw (sym k, sym p, sym q, sym v) e
 
--- the length of the line
-pub line-long : (bytes out : List ℕ) (end : ℕ) → Lined bytes out end → LineLong bytes end
-line-long bytes out end l x f b = l .within .1 ∙ ap length (l .is x f b)
-
--- records begin with what tells their size, so bytes are the records of one number of items
-pub one-count : (xs ys : List (Item Frame)) → records xs ≡ records ys → length xs ≡ length ys
-one-count [] [] e = refl
-one-count [] (y ∷ ys) e = absurd (omega (arith, ap length e, length-append (recordOf y) (records ys), record-length y, size-pos y))
-one-count (x ∷ xs) [] e = absurd (omega (arith, ap length e, length-append (recordOf x) (records xs), record-length x, size-pos x))
-one-count (x ∷ xs) (y ∷ ys) e =
-    let s : sizeOf x ≡ sizeOf y = sym (first-size x (records xs)) ∙ ap (λ (b : List ℕ). getD sizes (getD b 0 0) 0) e ∙ first-size y (records ys) in
-    let more : records xs ≡ records ys =
-    sym (drop-at (recordOf x) (records xs) (sizeOf x) (record-length x)) ∙ ap (drop (sizeOf x)) e ∙ drop-at (recordOf y) (records ys) (sizeOf x) (record-length y ∙ sym s) in
-    ap suc (one-count xs ys more)
-
--- a page, some of whose records are printed
-pub record Left (page : List ℕ) (at lines : ℕ) : Type 0 where
+-- a page that is the records of some items, and a buffer in which the lines of the first of them stand
+pub record Left (xs : List (Item Frame)) (page before : List ℕ) (at : ℕ) (out : List ℕ) (from end : ℕ) : Type 0 where
+  pub text : List ℕ
   pub rest : List (Item Frame)
+  pub whole : linesOf xs ≡ text ++ linesOf rest
   pub fit : AllFit rest
-  pub are : drop at page ≡ records rest
-  pub inside : at ≤ length page
-  pub few : lines ≤ at
-  pub counted : (xs : List (Item Frame)) → page ≡ records xs → lines + length rest ≡ length xs
+  pub are : drop from page ≡ records rest
+  pub inside : from ≤ length page
+  pub put : Put before at text out end
 
-pub left-all : (page : List ℕ) → Records page → Left page 0 0
-left-all page r =
-    record {
-      rest = r .items;
-      fit = r .fit;
-      are = r .are;
-      inside = omega arith;
-      few = omega arith;
-      counted = λ xs e. omega (arith, one-count (r .items) xs (sym (r .are) ∙ e));
-    }
+-- the same of all items that the page is the records of
+abbrev pub AllLeft : List ℕ → List ℕ → ℕ → List ℕ → ℕ → ℕ → Type 0
+AllLeft page before at out from end = (xs : List (Item Frame)) → AllFit xs → page ≡ records xs → Left xs page before at out from end
 
-pub left-none : (page : List ℕ) (at lines : ℕ) → Left page at lines → length page ≤ at → Counted page lines
-left-none page at lines l h xs e = go (l .rest) (l .are) (l .counted xs e)
+pub left-all : (page before : List ℕ) (at : ℕ) → at ≤ length before → AllLeft page before at before 0 at
+left-all page before at h xs f e = record { text = []; rest = xs; whole = refl; fit = f; are = e; inside = omega arith; put = put-none before at h }
+
+-- no record is left
+pub left-none : (page before : List ℕ) (at : ℕ) (out : List ℕ) (from end : ℕ) → AllLeft page before at out from end → length page ≤ from → AllLined page before at out end
+left-none page before at out from end left h xs f e = go (left xs f e .rest) (left xs f e .are) (left xs f e .whole)
   where
-    go : (ys : List (Item Frame)) → drop at page ≡ records ys → lines + length ys ≡ length xs → lines ≡ length xs
-    go [] a c = omega arith
-    go (y ∷ ys) a c = absurd (omega (arith, ap length a, length-drop at page, length-append (recordOf y) (records ys), record-length y, size-pos y))
+    go : (ys : List (Item Frame)) → drop from page ≡ records ys → linesOf xs ≡ left xs f e .text ++ linesOf ys → Put before at (linesOf xs) out end
+    go [] a w = rw (w, append-nil) (left xs f e .put)
+    go (y ∷ ys) a w = absurd (omega (arith, ap length a, length-drop from page, length-append (recordOf y) (records ys), record-length y, size-pos y))
 
 -- the first of the records that are left
-pub record Next (page : List ℕ) (at lines size : ℕ) : Type 0 where
-  pub few : getD page at 0 < 9
+pub record First (page : List ℕ) (from size : ℕ) (rest : List (Item Frame)) : Type 0 where
+  pub item : Item Frame
+  pub more : List (Item Frame)
+  pub fits : Fits item
+  pub fit : AllFit more
+  pub splits : rest ≡ item ∷ more
+  pub few : getD page from 0 < 9
   pub some : 0 < size
-  pub inside : at + size ≤ length page
-  pub recorded : Recorded (take size (drop at page))
-  pub left : Left page (at + size) (lines + 1)
+  pub inside : from + size ≤ length page
+  pub is : take size (drop from page) ≡ recordOf item
+  pub are : drop (from + size) page ≡ records more
 
-pub next : (page : List ℕ) (at lines : ℕ) → Left page at lines → at < length page → Next page at lines (getD sizes (getD page at 0) 0)
-next page at lines l h = go (l .rest) (l .fit) (l .are) (l .counted)
-  where
-    go : (ys : List (Item Frame)) → AllFit ys → drop at page ≡ records ys → ((xs : List (Item Frame)) → page ≡ records xs → lines + length ys ≡ length xs)
-        → Next page at lines (getD sizes (getD page at 0) 0)
-    go [] f a c = absurd (omega (arith, ap length a, length-drop at page))
-    go (y ∷ ys) (f, fs) a c =
-        let first : getD page at 0 ≡ getD (recordOf y ++ records ys) 0 0 = ap (λ (k : ℕ). getD page k 0) (omega arith) ∙ sym (getD-drop at page 0 0) ∙ ap (λ (b : List ℕ). getD b 0 0) a in
-        let size : getD sizes (getD page at 0) 0 ≡ sizeOf y = ap (λ (k : ℕ). getD sizes k 0) first ∙ first-size y (records ys) in
-        let long : length page - at ≡ sizeOf y + length (records ys) = sym (length-drop at page) ∙ ap length a ∙ length-append (recordOf y) (records ys) ∙ ap (λ (k : ℕ). k + length (records ys)) (record-length y) in
-        rw size
-        (record {
-          few = rw first (first-few y (records ys));
-          some = size-pos y;
-          inside = omega arith;
-          recorded = record { item = y; fits = f; is = ap (take (sizeOf y)) a ∙ take-at (recordOf y) (records ys) (sizeOf y) (record-length y) };
-          left =
-              record {
-                rest = ys;
-                fit = fs;
-                are = sym (drop-drop (sizeOf y) at page) ∙ ap (drop (sizeOf y)) a ∙ drop-at (recordOf y) (records ys) (sizeOf y) (record-length y);
-                inside = omega arith;
-                few = omega (arith, l .few, size-pos y);
-                counted = λ xs e. omega (arith, c xs e);
-              };
-        })
+pub first : (page : List ℕ) (from : ℕ) (rest : List (Item Frame)) → AllFit rest → drop from page ≡ records rest → from < length page
+    → First page from (getD sizes (getD page from 0) 0) rest
+first page from [] f a h = absurd (omega (arith, ap length a, length-drop from page))
+first page from (y ∷ ys) (f, fs) a h =
+    let kind : getD page from 0 ≡ getD (recordOf y ++ records ys) 0 0 = ap (λ (k : ℕ). getD page k 0) (omega arith) ∙ sym (getD-drop from page 0 0) ∙ ap (λ (b : List ℕ). getD b 0 0) a in
+    let size : getD sizes (getD page from 0) 0 ≡ sizeOf y = ap (λ (k : ℕ). getD sizes k 0) kind ∙ first-size y (records ys) in
+    let long : length page - from ≡ sizeOf y + length (records ys) = sym (length-drop from page) ∙ ap length a ∙ length-append (recordOf y) (records ys) ∙ ap (λ (k : ℕ). k + length (records ys)) (record-length y) in
+    rw size
+    (record {
+      item = y;
+      more = ys;
+      fits = f;
+      fit = fs;
+      splits = refl;
+      few = rw kind (first-few y (records ys));
+      some = size-pos y;
+      inside = omega arith;
+      is = ap (take (sizeOf y)) a ∙ take-at (recordOf y) (records ys) (sizeOf y) (record-length y);
+      are = sym (drop-drop (sizeOf y) from page) ∙ ap (drop (sizeOf y)) a ∙ drop-at (recordOf y) (records ys) (sizeOf y) (record-length y);
+    })
+
+module _ (page before : List ℕ) (at : ℕ) (out : List ℕ) (from end : ℕ) (left : AllLeft page before at out from end) (h : from < length page) where
+  -- what is asked of it holds
+  pub record Next (long size : ℕ) : Type 0 where
+    pub few : getD page from 0 < 9
+    pub some : 0 < size
+    pub inside : from + size ≤ length page
+    pub recorded : Recorded (take size (drop from page))
+    pub room : end + 86 ≤ long
+
+  pub next : (long : ℕ) → Records page at long → Next long (getD sizes (getD page from 0) 0)
+  next long r =
+      let l = left (r .items) (r .fit) (r .are) in
+      let x = first page from (l .rest) (l .fit) (l .are) h in
+      record {
+        few = x .few;
+        some = x .some;
+        inside = x .inside;
+        recorded = record { item = x .item; fits = x .fits; is = x .is };
+        room = omega (arith, r .room, l .put .ends, ap length (l .whole), length-append (l .text) (linesOf (l .rest)));
+      }
+
+  -- its line is put
+  pub left-next : (after : List ℕ) (behind : ℕ) → Lined (take (getD sizes (getD page from 0) 0) (drop from page)) out end after behind
+      → AllLeft page before at after (from + getD sizes (getD page from 0) 0) behind
+  left-next after behind p xs f e =
+      let l = left xs f e in
+      let x = first page from (l .rest) (l .fit) (l .are) h in
+      record {
+        text = l .text ++ lineOf (x .item);
+        rest = x .more;
+        whole = l .whole ∙ ap (λ (r : List (Item Frame)). l .text ++ linesOf r) (x .splits) ∙ sym (append-assoc (l .text) (lineOf (x .item)) (linesOf (x .more)));
+        fit = x .fit;
+        are = x .are;
+        inside = x .inside;
+        put = put-put (l .put) (p (x .item) (x .fits) (x .is));
+      }

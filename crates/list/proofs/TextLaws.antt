@@ -1,19 +1,20 @@
--- A text that grows at its end: bytes copied behind it, and the digits of a number as `io` spells them.
+-- A text put into a buffer: bytes copied to a place, one text behind the other, and the digits of a number as `io` spells them.
 -- Assumes nothing.
-use mathlib.Core.Path.{_≡_, sym, _∙_, ap, ap₂}
-use mathlib.Core.List.{List, [], _∷_, _++_, append-assoc, append-nil}
+use mathlib.Core.Path.{_≡_, refl, sym, _∙_, ap}
+use mathlib.Core.Bool.{Bool, true, false, cond}
+use mathlib.Core.List.{List, [], _∷_, _++_, append-assoc}
 use mathlib.Core.Logic.{by-cases}
 use Prim.Native.Nat.{ℕ, zero, suc, _+_, _*_, _-_, _/_, _%_, _^_, _≤_, _<_}
-use native.Mathlib.Nat.{mod-lt, add-assoc, add-zero, one-le-pow, pow-le-pow-right}
+use native.Mathlib.Nat.{mod-lt, one-le-pow, pow-le-pow-right}
 use native.Mathlib.Numerals.{add-one, unary-clauses}
 use native.Mathlib.Omega.{arith}
 use native.Mathlib.Decide.{decLt}
 use borrow.Author.Tests.{lt-ltb, le-ltb}
-use lib.Dec.{lit<}
-use lib.ListN.{length, take, getD, set}
-use lib.Seq.{take-suc, take-suc-set, take-length, length-take-le}
+use lib.Dec.{lit<, ltb}
+use lib.ListN.{length, take, drop, getD, set, replicate, length-append, length-drop, length-replicate}
+use lib.Seq.{take-all, take-length, take-at, drop-at, drop-drop, length-take-le, paste, paste-zero, paste-suc, length-paste}
 use Rattle.io.specs.Digits.{digits, glyph, Fewest}
-use Rattle.list.specs.Line.{digitsOf, decimalOf, spaced, Ends}
+use Rattle.list.specs.Line.{digitsOf, decimalOf, Put}
 
 -- the last digit
 glyph-is : (n : ℕ) → glyph (n % 10) ≡ 48 + n % 10
@@ -32,27 +33,15 @@ digits-are (suc most) (suc (suc k)) n h f =
     digits-are most (suc k) (n / 10) (omega arith) (omega arith, omega (arith, f .1), λ (m : 1 < suc k). simp unary-clauses (omega arith)) in
     rw (le-ltb n 10 ten, front, glyph-is n)
 
--- one byte more is copied behind the text that ends at a place
-pub copy-turn : (out before bytes : List ℕ) (at i : ℕ) → at + i < length out → i < length bytes → take (at + i) out ≡ take at before ++ take i bytes
-    → take (at + (i + 1)) (set out (at + i) (getD bytes i 0)) ≡ take at before ++ take (i + 1) bytes
-copy-turn out before bytes at i h l e =
-    ap (λ (k : ℕ). take k (set out (at + i) (getD bytes i 0))) (sym (add-assoc at i 1))
-    ∙ rw add-one (take-suc-set out (at + i) (getD bytes i 0) h)
-    ∙ ap (λ (t : List ℕ). t ++ getD bytes i 0 ∷ []) e
-    ∙ append-assoc (take at before) (take i bytes) (getD bytes i 0 ∷ [])
-    ∙ ap (λ (t : List ℕ). take at before ++ t) (rw add-one (sym (take-suc bytes i 0 l)))
-
--- nothing is copied yet
-pub copy-none : (out bytes : List ℕ) (at : ℕ) → take (at + 0) out ≡ take at out ++ take 0 bytes
-copy-none out bytes at = rw (add-zero, append-nil)
-
--- a text ends where the front of the buffer is it
-pub ends : (out text : List ℕ) (end : ℕ) → end ≤ length out → take end out ≡ text → Ends out end text
-ends out text end h e = record { within = (h, sym (length-take-le end out h)); is = e }
-
--- everything is copied
-pub copy-all : (out before bytes : List ℕ) (at i : ℕ) → i ≡ length bytes → at + i ≤ length out → take (at + i) out ≡ take at before ++ take i bytes → Ends out (at + length bytes) (take at before ++ bytes)
-copy-all out before bytes at i e l h = ends out (take at before ++ bytes) (at + length bytes) (omega arith) (rw (sym e) (h ∙ ap (λ (t : List ℕ). take at before ++ t) (ap (λ (k : ℕ). take k bytes) e ∙ take-length bytes)))
+-- a number has as many digits at most as are asked for
+pub digits-most : (most n : ℕ) → length (digitsOf most n) ≤ most
+unfolding digitsOf
+digits-most zero n = omega arith
+digits-most (suc most) n = go (ltb n 10) (digits-most most (n / 10))
+  where
+    go : (b : Bool) → length (digitsOf most (n / 10)) ≤ most → length (cond b [] (digitsOf most (n / 10)) ++ ((48 + n % 10) ∷ [])) ≤ suc most
+    go true h = omega arith
+    go false h = simp length-append (omega arith)
 
 -- a number of 64 bits has twenty digits at most
 pub few-digits : (n k : ℕ) → n < 18446744073709551616 → Fewest 10 1 n k → k ≤ 20
@@ -61,23 +50,53 @@ few-digits n k h f =
     (λ (l : 20 < k). let p : 10 ^ 20 ≤ 10 ^ (k - 1) = pow-le-pow-right {n = 10} (lit< tt) {i = 20} {j = k - 1} (omega arith) in absurd (omega (arith, f .2 (omega arith))))
     (λ (g : ¬ (20 < k)). omega arith)
 
--- a space and the digits
-pub number-put : (before space out bytes : List ℕ) (at from end n count : ℕ) → count ≤ 20 → Fewest 10 1 n count → bytes ≡ digits 10 count n
-    → take from space ≡ take at before ++ 32 ∷ [] → Ends out end (take from space ++ bytes) → Ends out end (take at before ++ 32 ∷ decimalOf n)
-number-put before space out bytes at from end n count most f d e l =
+-- one byte more is copied to a place
+pub copy-turn : (out before bytes : List ℕ) (at i : ℕ) → at + i < length before → i < length bytes → out ≡ paste before at bytes i → set out (at + i) (getD bytes i 0) ≡ paste before at bytes (i + 1)
+copy-turn out before bytes at i h l e = ap (λ (o : List ℕ). set o (at + i) (getD bytes i 0)) e ∙ paste-suc before at bytes i 0 h l ∙ rw add-one
+
+-- all bytes are copied
+pub copied : (before after bytes : List ℕ) (at i : ℕ) → i ≡ length bytes → at + i ≤ length before → after ≡ paste before at bytes i → Put before at bytes after (at + length bytes)
+copied before after bytes at i e h p =
+    let q : after ≡ take at before ++ bytes ++ drop (at + length bytes) before = p ∙ ap (λ (k : ℕ). paste before at bytes k) e ∙ ap (λ (t : List ℕ). take at before ++ t ++ drop (at + length bytes) before) (take-length bytes) in
+    let l : at + length bytes ≤ length after = omega (arith, ap length p ∙ length-paste before at bytes i h (omega arith)) in
+    record { ends = refl; is = q; within = (l, sym (length-take-le (at + length bytes) after l)) }
+
+-- the place at which a text is put is inside the buffer
+pub put-from : {before text after : List ℕ} {at end : ℕ} → Put before at text after end → at ≤ length before
+put-from {before} {text} {after} {at} {end} p =
+    by-cases (decLt (length before) at)
+    (λ (l : length before < at). let e : length (take at before) ≡ length before = ap length (take-all at before (omega arith)) in
+    absurd (omega (arith, p .ends, p .within .0, ap length (p .is), length-append (take at before ++ text) (drop (at + length text) before), length-append (take at before) text, length-drop (at + length text) before)))
+    (λ (g : ¬ (length before < at)). omega arith)
+
+-- a text behind another is one text
+pub put-put : {a s b t c : List ℕ} {at m end : ℕ} → Put a at s b m → Put b m t c end → Put a at (s ++ t) c end
+put-put {a} {s} {b} {t} {c} {at} {m} {end} p q =
+    let front : length (take at a ++ s) ≡ m = length-append (take at a) s ∙ ap (λ (k : ℕ). k + length s) (length-take-le at a (put-from p)) ∙ sym (p .ends) in
+    let before : take m b ≡ take at a ++ s = ap (take m) (p .is) ∙ take-at (take at a ++ s) (drop (at + length s) a) m front in
+    let rest : drop m b ≡ drop m a = ap (drop m) (p .is) ∙ drop-at (take at a ++ s) (drop (at + length s) a) m front ∙ ap (λ (k : ℕ). drop k a) (sym (p .ends)) in
+    let place : m + length t ≡ at + length (s ++ t) = omega (arith, p .ends, length-append s t) in
+    let behind : drop (m + length t) b ≡ drop (at + length (s ++ t)) a = sym (drop-drop (length t) m b) ∙ ap (drop (length t)) rest ∙ drop-drop (length t) m a ∙ ap (λ (k : ℕ). drop k a) place in
     record {
-      within = l .within;
-      is = l .is ∙ ap₂ (λ (s t : List ℕ). s ++ t) e (d ∙ digits-are 20 count n most f) ∙ append-assoc (take at before) (32 ∷ []) (decimalOf n);
+      ends = q .ends ∙ place;
+      is = q .is ∙ ap (λ (l : List ℕ). l ++ t ++ drop (m + length t) b) before ∙ ap (λ (l : List ℕ). take at a ++ s ++ t ++ l) behind ∙ ap (λ (l : List ℕ). l ++ drop (at + length (s ++ t)) a) (append-assoc (take at a) s t);
+      within = q .within;
     }
 
--- a text that begins with a letter, and goes on with numbers, each behind a space, and the line end
-module _ (letter : ℕ) (t₀ t₁ t₂ : List ℕ) (e₀ : t₀ ≡ letter ∷ []) where
-  pub line-of-one : (a : ℕ) → t₁ ≡ t₀ ++ 32 ∷ decimalOf a → t₂ ≡ t₁ ++ 10 ∷ [] → t₂ ≡ letter ∷ spaced (a ∷ [])
-  line-of-one a e₁ e₂ = rw (e₂, e₁, e₀)
+-- nothing is put yet
+pub put-none : (before : List ℕ) (at : ℕ) → at ≤ length before → Put before at [] before at
+put-none before at h =
+    record {
+      ends = omega arith;
+      is = paste-zero before at [];
+      within = (h, sym (length-take-le at before h));
+    }
 
-  pub line-of-two : (t₃ : List ℕ) (a b : ℕ) → t₁ ≡ t₀ ++ 32 ∷ decimalOf a → t₂ ≡ t₁ ++ 32 ∷ decimalOf b → t₃ ≡ t₂ ++ 10 ∷ [] → t₃ ≡ letter ∷ spaced (a ∷ b ∷ [])
-  line-of-two t₃ a b e₁ e₂ e₃ = rw (e₃, e₂, e₁, e₀) (simp append-assoc)
+-- a space, and behind it the digits
+pub number-put : {before space after bytes : List ℕ} {at from end n count : ℕ} → count ≤ 20 → Fewest 10 1 n count → bytes ≡ digits 10 count n
+    → Put before at (32 ∷ []) space from → Put space from bytes after end → Put before at (32 ∷ decimalOf n) after end
+number-put {bytes = bytes} {n = n} {count = count} most f d p q = let e : bytes ≡ decimalOf n = d ∙ digits-are 20 count n most f in put-put p (rw e at q)
 
-  pub line-of-four : (t₃ t₄ t₅ : List ℕ) (a b c d : ℕ) → t₁ ≡ t₀ ++ 32 ∷ decimalOf a → t₂ ≡ t₁ ++ 32 ∷ decimalOf b → t₃ ≡ t₂ ++ 32 ∷ decimalOf c → t₄ ≡ t₃ ++ 32 ∷ decimalOf d
-      → t₅ ≡ t₄ ++ 10 ∷ [] → t₅ ≡ letter ∷ spaced (a ∷ b ∷ c ∷ d ∷ [])
-  line-of-four t₃ t₄ t₅ a b c d e₁ e₂ e₃ e₄ e₅ = rw (e₅, e₄, e₃, e₂, e₁, e₀) (simp append-assoc)
+-- a buffer of zeros
+pub zeros-long : (k : ℕ) → k ≤ length {A = ℕ} (replicate k 0)
+zeros-long k = omega (arith, length-replicate {A = ℕ} k 0)

@@ -1,11 +1,11 @@
--- The lines of the listing (document 01, "The listing program") and the records that they are made of.
+-- The lines of the listing (document 01, "The listing program"), the records that they are made of, and how a text is put into a buffer.
 -- Assumes nothing.
 use mathlib.Core.Path.{_≡_}
 use mathlib.Core.Bool.{cond}
 use mathlib.Core.List.{List, [], _∷_, _++_}
-use Prim.Native.Nat.{ℕ, zero, suc, _+_, _/_, _%_, _<_}
+use Prim.Native.Nat.{ℕ, zero, suc, _+_, _/_, _%_, _≤_, _<_}
 use lib.Dec.{ltb}
-use lib.ListN.{length, take}
+use lib.ListN.{length, take, drop}
 use Rattle.io.specs.Counts.{Counts}
 use Rattle.reading.specs.Reading.{Item, gap, frame}
 use Rattle.channel.specs.Kinds.{kindNo}
@@ -26,15 +26,25 @@ abbrev pub spaced : List ℕ → List ℕ
 spaced [] = 10 ∷ []
 spaced (n ∷ ns) = 32 ∷ decimalOf n ++ spaced ns
 
--- the front of a buffer, up to a place, is a text
-pub record Ends (out : List ℕ) (end : ℕ) (text : List ℕ) : Type 0 where
-  pub within : Counts end out
-  pub is : take end out ≡ text
+-- the line of a refusal: `R number`
+abbrev pub refusalLine : ℕ → List ℕ
+refusalLine number = 82 ∷ spaced (number ∷ [])
 
 -- the line of an item: `G start length` or `F kind start tail verdict`
 abbrev pub lineOf : Item Frame → List ℕ
 lineOf (gap start span) = 71 ∷ spaced (start ∷ span ∷ [])
 lineOf (frame f) = 70 ∷ spaced (kindNo (f .kind) ∷ f .start ∷ f .tail ∷ f .verdict ∷ [])
+
+-- the lines of some items, in order
+abbrev pub linesOf : List (Item Frame) → List ℕ
+linesOf [] = []
+linesOf (x ∷ xs) = lineOf x ++ linesOf xs
+
+-- a text is put into a buffer at a place, and ends at another: the bytes before the place and those behind the text are as they were
+pub record Put (before : List ℕ) (at : ℕ) (text after : List ℕ) (end : ℕ) : Type 0 where
+  pub ends : end ≡ at + length text
+  pub is : after ≡ take at before ++ text ++ drop (at + length text) before
+  pub within : Counts end after
 
 -- the sizes of records by their kinds, a gap first
 abbrev pub sizes : List ℕ
@@ -55,21 +65,17 @@ pub record Recorded (bytes : List ℕ) : Type 0 where
   pub fits : Fits item
   pub is : bytes ≡ recordOf item
 
--- the front of a buffer, up to a place, is the line of the item that the bytes are the record of
-pub record Lined (bytes out : List ℕ) (end : ℕ) : Type 0 where
-  pub within : Counts end out
-  pub is : (x : Item Frame) → Fits x → bytes ≡ recordOf x → take end out ≡ lineOf x
+-- the line that is put is that of the item that the bytes are the record of
+abbrev pub Lined : List ℕ → List ℕ → ℕ → List ℕ → ℕ → Type 0
+Lined bytes before at after end = (x : Item Frame) → Fits x → bytes ≡ recordOf x → Put before at (lineOf x) after end
 
--- a number that is the length of that line
-abbrev pub LineLong : List ℕ → ℕ → Type 0
-LineLong bytes long = (x : Item Frame) → Fits x → bytes ≡ recordOf x → long ≡ length (lineOf x)
-
--- bytes that are records
-pub record Records (bytes : List ℕ) : Type 0 where
+-- bytes that are records, and a buffer of some length that has room for their lines from a place on, and for the longest line behind them
+pub record Records (bytes : List ℕ) (at long : ℕ) : Type 0 where
   pub items : List (Item Frame)
   pub fit : AllFit items
   pub are : bytes ≡ records items
+  pub room : at + length (linesOf items) + 86 ≤ long
 
--- a number that is that of the items that the bytes are the records of
-abbrev pub Counted : List ℕ → ℕ → Type 0
-Counted bytes lines = (xs : List (Item Frame)) → bytes ≡ records xs → lines ≡ length xs
+-- the lines that are put are those of the items that the bytes are the records of, in order
+abbrev pub AllLined : List ℕ → List ℕ → ℕ → List ℕ → ℕ → Type 0
+AllLined bytes before at after end = (xs : List (Item Frame)) → AllFit xs → bytes ≡ records xs → Put before at (linesOf xs) after end

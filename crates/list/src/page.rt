@@ -1,10 +1,9 @@
-// The records of a page, taken apart and printed.
+// The lines of a page: its records taken apart, one after the other.
 ghost use mathlib.Core.Path.{_≡_};
 ghost use Prim.Native.Nat.{_+_, _≤_, _<_};
 ghost use lib.ListN.{length, getD};
-ghost use Rattle.list.specs.Line.{sizes, Recorded, Lined, LineLong, Records, Counted};
+ghost use Rattle.list.specs.Line.{sizes, Recorded, Lined, Records, AllLined};
 use crate::line;
-use libc::STDOUT_FILENO;
 
 // The sizes of records by their kinds, a gap first.
 const SIZES: [usize; 9] = [9, 26, 28, 27, 28, 28, 28, 30, 31];
@@ -17,43 +16,31 @@ fn size(kind: u8) -> usize
     SIZES[kind as usize]
 }
 
-// Puts the line of the item that a record is of, and answers where it ends.
-fn put_line(out: &mut [u8], bytes: &[u8]) -> usize
-    requires { ⌜ Recorded (now bytes) × (86 ≤ length (now out)) ⌝ }
-    ensures { λ r. ⌜ Lined (now (bytes .entry)) (now (out .exit)) r ⌝ }
+// Puts the line of the item that a record is of at a place, and answers where it ends.
+fn put_line(out: &mut [u8], at: usize, bytes: &[u8]) -> usize
+    requires { ⌜ Recorded (now bytes) × (at + 86 ≤ length (now out)) ⌝ }
+    ensures { λ r. ⌜ Lined (now (bytes .entry)) (now (out .entry)) at (now (out .exit)) r ⌝ }
 {
     let kind = bytes[0];
     let start = record::number_at(bytes, 1);
     let span = record::number_at(bytes, 5);
     if kind == 0 {
-        return line::put_gap(out, start, span);
+        return line::put_gap(out, at, start, span);
     }
-    line::put_frame(out, kind, start, span, bytes[11])
+    line::put_frame(out, at, kind, start, span, bytes[11])
 }
 
-// Prints the line of the item that a record is of, and answers how many bytes it has.
-fn print_line(bytes: &[u8]) -> usize
-    requires { ⌜ Recorded (now bytes) ⌝ }
-    ensures { λ r. ⌜ LineLong (now (bytes .entry)) r ⌝ }
+// Puts the line of each record of a page, in order, at a place, and answers where the last ends.
+pub fn put_lines(out: &mut [u8], at: usize, page: &[u8]) -> usize
+    requires { ⌜ Records (now page) at (length (now out)) ⌝ }
+    ensures { λ r. ⌜ AllLined (now (page .entry)) (now (out .entry)) at (now (out .exit)) r ⌝ }
 {
-    let mut text = [0u8; 86];
-    let end = put_line(&mut text, bytes);
-    io::write_all(STDOUT_FILENO, &text[..end]);
+    let mut from: usize = 0;
+    let mut end = at;
+    while from < page.len() {
+        let behind = from + size(page[from]);
+        end = put_line(out, end, &page[from..behind]);
+        from = behind;
+    }
     end
-}
-
-// Prints the line of each record of a page, and answers how many there are.
-pub fn print(page: &[u8]) -> u64
-    requires { ⌜ Records (now page) ⌝ }
-    ensures { λ r. ⌜ Counted (now (page .entry)) r ⌝ }
-{
-    let mut at: usize = 0;
-    let mut lines: u64 = 0;
-    while at < page.len() {
-        let behind = at + size(page[at]);
-        print_line(&page[at..behind]);
-        at = behind;
-        lines += 1;
-    }
-    lines
 }

@@ -1,23 +1,23 @@
--- `list::line::put` meets its contract. The loop's invariant: the first i bytes stand behind the text.
+-- `list::line::put` meets its contract. The loop's invariant: the first i bytes are copied.
 -- Assumes nothing.
 use mathlib.Core.Path.{_≡_, _∙_}
-use mathlib.Core.List.{_++_}
 use Prim.Native.Nat.{_+_, _-_, _≤_}
 use native.Mathlib.Omega.{arith}
 use borrow.Author.Needs.{needs}
-use lib.ListN.{length, take, length-set}
-use Rattle.list.proofs.TextLaws.{copy-none, copy-turn, copy-all}
+use lib.ListN.{length, length-set}
+use lib.Seq.{paste, paste-zero}
+use Rattle.list.proofs.TextLaws.{copy-turn, copied}
 use Rattle.list.proofs.line.put.Statement.{statement}
 use Rattle.list.proofs.line.put.Tie as tie
 
 abbrev Inv-loop : tie.InvT-loop
-Inv-loop out₀ at bytes i₀ i-end out i = (i-end ≡ length bytes) × (i ≤ length bytes) × (length out ≡ length out₀) × (take (at + i) out ≡ take at out₀ ++ take i bytes)
+Inv-loop out₀ at bytes i₀ i-end out i = (i-end ≡ length bytes) × (i ≤ length bytes) × (length out ≡ length out₀) × (out ≡ paste out₀ at bytes i)
 
 abbrev μ-loop : tie.MeasureT-loop
 μ-loop out₀ at bytes i₀ i-end out i = length bytes - i
 
 loop-holds : tie.Need-loop-holds Inv-loop μ-loop
-loop-holds c = (search needs, search needs, search needs, copy-none (c .args .out .now) (c .args .bytes .now) (c .args .at))
+loop-holds c = (search needs, search needs, search needs, paste-zero (c .args .out .now) (c .args .at) (c .args .bytes .now))
 
 shared-slice-read-out : tie.Need-shared-slice-read-out Inv-loop μ-loop
 shared-slice-read-out c = search needs
@@ -50,7 +50,7 @@ returns : tie.Need-returns Inv-loop μ-loop
 returns c =
     let l = c .before .loop in
     let a = c .before .before .args in
-    (search needs, copy-all (l .out) (a .out .now) (a .bytes .now) (a .at) (l .i) (omega arith) (omega arith) (l .inv .3))
+    copied (a .out .now) (l .out) (a .bytes .now) (a .at) (l .i) (omega arith) (omega arith) (l .inv .3)
 
 pub put-spec : {M : Type 1} → statement M
 put-spec =

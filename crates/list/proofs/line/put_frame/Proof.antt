@@ -1,8 +1,7 @@
 -- `list::line::put_frame` meets its contract.
 -- Assumes nothing.
 use borrow.Author.Needs.{needs}
-use lib.ListN.{take}
-use Rattle.list.proofs.TextLaws.{line-of-four}
+use Rattle.list.proofs.TextLaws.{put-put}
 use Rattle.list.proofs.line.put_frame.Statement.{statement}
 use Rattle.list.proofs.line.put_frame.Tie as tie
 
@@ -35,14 +34,13 @@ same-length c = search needs
 
 returns : tie.Need-returns
 returns c =
-    let a = c .before .before .before .before .before .before .before .before .before .before .before .before .before .before .before .before .before .before .before .before .before .before .before .before .before .before .before .args in
     let the-put = c .before .before .before .before .before .before .before .before .before .before .before .before .before .before .before .before .before .before .before .before .before .before .before .put in
     let the-put-number = c .before .before .before .before .before .before .before .before .before .before .before .before .before .before .before .before .before .before .before .put-number in
     let the-put-number2 = c .before .before .before .before .before .before .before .before .before .before .before .before .before .before .before .put-number2 in
     let the-put-number3 = c .before .before .before .before .before .before .before .before .before .before .before .put-number3 in
     let the-put-number4 = c .before .before .before .before .before .before .before .put-number4 in
     let the-put2 = c .before .before .put2 in
-    record { within = the-put2 .ensures .1 .within; is = line-of-four 70 (take (the-put .result) (the-put .last .0)) (take (the-put-number .result) (the-put-number .last .0)) (take (the-put-number2 .result) (the-put-number2 .last .0)) (the-put .ensures .1 .is) (take (the-put-number3 .result) (the-put-number3 .last .0)) (take (the-put-number4 .result) (the-put-number4 .last .0)) (take (the-put2 .result) (the-put2 .last .0)) (a .kind) (a .start) (a .tail) (a .verdict) (the-put-number .ensures .1 .is) (the-put-number2 .ensures .1 .is) (the-put-number3 .ensures .1 .is) (the-put-number4 .ensures .1 .is) (the-put2 .ensures .1 .is) }
+    put-put (the-put .ensures) (put-put (the-put-number .ensures .1) (put-put (the-put-number2 .ensures .1) (put-put (the-put-number3 .ensures .1) (put-put (the-put-number4 .ensures .1) (the-put2 .ensures)))))
 
 pub put-frame-spec : {M : Type 1} → statement M
 put-frame-spec =

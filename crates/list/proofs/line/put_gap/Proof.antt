@@ -1,8 +1,7 @@
 -- `list::line::put_gap` meets its contract.
 -- Assumes nothing.
 use borrow.Author.Needs.{needs}
-use lib.ListN.{take}
-use Rattle.list.proofs.TextLaws.{line-of-two}
+use Rattle.list.proofs.TextLaws.{put-put}
 use Rattle.list.proofs.line.put_gap.Statement.{statement}
 use Rattle.list.proofs.line.put_gap.Tie as tie
 
@@ -29,12 +28,11 @@ same-length c = search needs
 
 returns : tie.Need-returns
 returns c =
-    let a = c .before .before .before .before .before .before .before .before .before .before .before .before .before .before .before .before .before .before .before .args in
     let the-put = c .before .before .before .before .before .before .before .before .before .before .before .before .before .before .before .put in
     let the-put-number = c .before .before .before .before .before .before .before .before .before .before .before .put-number in
     let the-put-number2 = c .before .before .before .before .before .before .before .put-number2 in
     let the-put2 = c .before .before .put2 in
-    record { within = the-put2 .ensures .1 .within; is = line-of-two 71 (take (the-put .result) (the-put .last .0)) (take (the-put-number .result) (the-put-number .last .0)) (take (the-put-number2 .result) (the-put-number2 .last .0)) (the-put .ensures .1 .is) (take (the-put2 .result) (the-put2 .last .0)) (a .start) (a .span) (the-put-number .ensures .1 .is) (the-put-number2 .ensures .1 .is) (the-put2 .ensures .1 .is) }
+    put-put (the-put .ensures) (put-put (the-put-number .ensures .1) (put-put (the-put-number2 .ensures .1) (the-put2 .ensures)))
 
 pub put-gap-spec : {M : Type 1} → statement M
 put-gap-spec =

@@ -4,7 +4,7 @@ use Prim.Native.Nat.{_≤_}
 use native.Mathlib.Omega.{arith}
 use borrow.Author.Needs.{needs}
 use lib.ListN.{take}
-use Rattle.list.proofs.TextLaws.{few-digits, number-put}
+use Rattle.list.proofs.TextLaws.{digits-most, few-digits, number-put}
 use Rattle.list.proofs.line.put_number.Statement.{statement}
 use Rattle.list.proofs.line.put_number.Tie as tie
 
@@ -28,7 +28,7 @@ put-requires-2 c κs =
     let the-put = c .before .before .before .before .put in
     let d = c .before .before .before .before .before .before .before .decimal in
     let l : d .result ≤ 20 = few-digits (c .before .before .before .before .before .before .before .before .before .before .args .n) (d .result) (omega (arith, c .before .before .before .before .before .before .before .before .before .before .fits .n)) (d .ensures .1 .0) in
-    omega (arith, d .ensures .0, the-put .ensures .0, the-put .kept .0)
+    omega (arith, d .ensures .0, the-put .ensures .ends, the-put .kept .0)
 
 same-length : tie.Need-same-length
 same-length c = search needs
@@ -40,7 +40,8 @@ returns c =
     let s = c .before .before .before .before .before .before .before .put in
     let p = c .before .before .put2 in
     let l : d .result ≤ 20 = few-digits (c .before .before .before .before .before .before .before .before .before .before .before .before .before .args .n) (d .result) (omega (arith, c .before .before .before .before .before .before .before .before .before .before .before .before .before .fits .n)) (d .ensures .1 .0) in
-    (omega (arith, d .ensures .0, s .ensures .0, p .ensures .0), number-put (a .out .now) (s .last .0) (p .last .0) (take (d .result) (d .last .1 .0)) (a .at) (s .result) (p .result) (a .n) (d .result) l (d .ensures .1 .0) (d .ensures .1 .1) (s .ensures .1 .is) (p .ensures .1))
+    let n = number-put l (d .ensures .1 .0) (d .ensures .1 .1) (s .ensures) (p .ensures) in
+    (omega (arith, n .ends, digits-most 20 (a .n)), n)
 
 pub put-number-spec : {M : Type 1} → statement M
 put-number-spec =

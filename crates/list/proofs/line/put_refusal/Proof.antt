@@ -1,8 +1,7 @@
 -- `list::line::put_refusal` meets its contract.
 -- Assumes nothing.
 use borrow.Author.Needs.{needs}
-use lib.ListN.{take}
-use Rattle.list.proofs.TextLaws.{line-of-one}
+use Rattle.list.proofs.TextLaws.{put-put}
 use Rattle.list.proofs.line.put_refusal.Statement.{statement}
 use Rattle.list.proofs.line.put_refusal.Tie as tie
 
@@ -29,7 +28,7 @@ returns c =
     let the-put = c .before .before .before .before .before .before .before .before .before .before .before .put in
     let the-put-number = c .before .before .before .before .before .before .before .put-number in
     let the-put2 = c .before .before .put2 in
-    record { within = the-put2 .ensures .1 .within; is = line-of-one 82 (take (the-put .result) (the-put .last .0)) (take (the-put-number .result) (the-put-number .last .0)) (take (the-put2 .result) (the-put2 .last .0)) (the-put .ensures .1 .is) (c .before .before .before .before .before .before .before .before .before .before .before .before .before .before .before .args .number) (the-put-number .ensures .1 .is) (the-put2 .ensures .1 .is) }
+    put-put (the-put .ensures) (put-put (the-put-number .ensures .1) (the-put2 .ensures))
 
 pub put-refusal-spec : {M : Type 1} → statement M
 put-refusal-spec =

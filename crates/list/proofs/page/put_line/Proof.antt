@@ -27,7 +27,8 @@ returns c =
     let the-number-at = c .before .before .before .before .before .before .number-at in
     let the-number-at2 = c .before .before .before .before .before .number-at2 in
     let the-put-gap = c .before .before .put-gap in
-    lined-gap (c .before .before .before .before .before .before .before .before .before .before .args .bytes .now) (the-put-gap .last .0) (the-put-gap .result) (the-number-at .result) (the-number-at2 .result) (the-number-at .ensures .0) (the-number-at2 .ensures .0) (c .before .before .before .before .if1 .taken) (the-put-gap .ensures)
+    let a = c .before .before .before .before .before .before .before .before .before .before .args in
+    lined-gap (a .bytes .now) (a .out .now) (the-put-gap .last .0) (a .at) (the-put-gap .result) (the-number-at .result) (the-number-at2 .result) (the-number-at .ensures .0) (the-number-at2 .ensures .0) (c .before .before .before .before .if1 .taken) (the-put-gap .ensures)
 
 shared-slice-read-put-frame : tie.Need-shared-slice-read-put-frame
 shared-slice-read-put-frame c = omega (arith, twelve (c .before .before .before .before .before .before .before .before .args .bytes .now) (c .before .before .before .before .before .before .before .before .pre .0) (c .before .before .if1 .left))
@@ -43,7 +44,8 @@ returns-2 c =
     let the-number-at = c .before .before .before .before .before .before .before .number-at in
     let the-number-at2 = c .before .before .before .before .before .before .number-at2 in
     let the-put-frame = c .before .before .put-frame in
-    lined-frame (c .before .before .before .before .before .before .before .before .before .before .before .args .bytes .now) (the-put-frame .last .0) (the-put-frame .result) (the-number-at .result) (the-number-at2 .result) (the-number-at .ensures .0) (the-number-at2 .ensures .0) _ _ refl refl (c .before .before .before .before .before .if1 .left) (the-put-frame .ensures)
+    let a = c .before .before .before .before .before .before .before .before .before .before .before .args in
+    lined-frame (a .bytes .now) (a .out .now) (the-put-frame .last .0) (a .at) (the-put-frame .result) (the-number-at .result) (the-number-at2 .result) (the-number-at .ensures .0) (the-number-at2 .ensures .0) _ _ refl refl (c .before .before .before .before .before .if1 .left) (the-put-frame .ensures)
 
 pub put-line-spec : {M : Type 1} → statement M
 put-line-spec =

@@ -1,0 +1,51 @@
+// The listing of some input as one text, put into a lent buffer page by page.
+ghost use Prim.Native.Nat.{_≤_};
+ghost use lib.ListN.{length};
+ghost use Rattle.list.specs.Listing.{Text, Listing, Listed};
+use crate::line;
+use crate::page;
+
+// Puts a line for each item of a capture, asking for each page with the cursor that the last answered, or the line of the refusal alone. Answers where the
+// text ends. The buffer has as many bytes as a capture may have bits, and 256 more: that is enough for every reading.
+fn list(capture: &[u8], direction: u8, out: &mut [u8]) -> usize
+    requires { ⌜ (length (now capture) ≤ 65538) × (524544 ≤ length (now out)) ⌝ }
+    ensures { λ r. ⌜ Listed (Text (now (capture .entry)) direction) (now (out .entry)) (now (out .exit)) r ⌝ }
+{
+    let n = 8 * capture.len() as u64;
+    let mut buffer = io::buffer();
+    let mut position: u64 = 0;
+    let mut context: u64 = 0;
+    let mut end: usize = 0;
+    loop {
+        let answer = bellrope::bellrope_page(
+            capture,
+            n,
+            direction as u64,
+            position,
+            context,
+            4096,
+            &mut buffer,
+        );
+        if answer.number != 0 {
+            return line::put_refusal(out, answer.number);
+        }
+        end = page::put_lines(out, end, &buffer[..answer.bytes as usize]);
+        if n <= answer.position {
+            return end;
+        }
+        position = answer.position;
+        context = answer.context;
+    }
+}
+
+// Puts the listing of some input, one byte of direction and then the capture, and answers where its text ends. Input without a direction byte is refused
+// with 1, as a direction above 1 is.
+pub fn listing(input: &[u8], out: &mut [u8]) -> usize
+    requires { ⌜ (length (now input) ≤ 65538) × (524544 ≤ length (now out)) ⌝ }
+    ensures { λ r. ⌜ Listed (Listing (now (input .entry))) (now (out .entry)) (now (out .exit)) r ⌝ }
+{
+    if input.len() == 0 {
+        return line::put_refusal(out, 1);
+    }
+    list(&input[1..], input[0], out)
+}
