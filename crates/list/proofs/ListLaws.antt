@@ -14,7 +14,7 @@ use Rattle.bellrope.specs.declared.Answer.{Answer}
 use Rattle.bellrope.specs.Paging.{directionOf, cursorAt}
 use Rattle.list.specs.Line.{refusalLine, linesOf, Put, Records, AllLined}
 use Rattle.list.specs.Listing.{numberOf, TextBy, Text, Listing, Listed}
-use Rattle.list.proofs.TextLaws.{put-none, put-put}
+use Rattle.list.proofs.TextLaws.{put-none, put-put, put-one}
 use Rattle.list.proofs.RoomLaws.{lines-append, lines-short, all-fit}
 use Rattle.list.proofs.PagingLaws.{pageNumber, number-due, PageTaken}
 
@@ -142,5 +142,4 @@ one-text (direction ∷ capture) s t p q = go (numberOf capture direction) p q
 -- and the buffer after it, with the place where the text ends, is one
 pub one-listing : (input before after last : List ℕ) (end stop : ℕ) → Listed (Listing input) before after end → Listed (Listing input) before last stop → (after ≡ last) × (end ≡ stop)
 one-listing input before after last end stop p q =
-    let e : p .text ≡ q .text = one-text input (p .text) (q .text) (p .is) (q .is) in
-    (p .put .is ∙ ap (λ (t : List ℕ). take 0 before ++ t ++ drop (0 + length t) before) e ∙ sym (q .put .is), p .put .ends ∙ ap (λ (t : List ℕ). 0 + length t) e ∙ sym (q .put .ends))
+    let e : p .text ≡ q .text = one-text input (p .text) (q .text) (p .is) (q .is) in put-one (p .put) (rw e (q .put))

@@ -15,7 +15,7 @@ use Rattle.channel.specs.Frames.{Frame}
 use Rattle.record.specs.Record.{numberAt, recordOf, records, sizeOf, dLength}
 use Rattle.record.proofs.RecordLaws.{four-bytes, record-length, size-pos}
 use Rattle.list.specs.Line.{spaced, lineOf, linesOf, Put, sizes, Fits, AllFit, Recorded, Lined, Records, AllLined}
-use Rattle.list.proofs.TextLaws.{put-none, put-put}
+use Rattle.list.proofs.TextLaws.{put-none, put-put, put-one}
 
 -- a kind's number and the size of its record
 kind-some : (k : Kind) → 0 < kindNo k
@@ -191,3 +191,10 @@ module _ (page before : List ℕ) (at : ℕ) (out : List ℕ) (from end : ℕ) (
         inside = x .inside;
         put = put-put (l .put) (p (x .item) (x .fits) (x .is));
       }
+
+-- no second buffer and end fit a record, or a page
+pub one-line : (bytes before after last : List ℕ) (at end stop : ℕ) → Recorded bytes → Lined bytes before at after end → Lined bytes before at last stop → (after ≡ last) × (end ≡ stop)
+one-line bytes before after last at end stop r p q = put-one (p (r .item) (r .fits) (r .is)) (q (r .item) (r .fits) (r .is))
+
+pub one-page : (bytes before after last : List ℕ) (at end stop long : ℕ) → Records bytes at long → AllLined bytes before at after end → AllLined bytes before at last stop → (after ≡ last) × (end ≡ stop)
+one-page bytes before after last at end stop long r p q = put-one (p (r .items) (r .fit) (r .are)) (q (r .items) (r .fit) (r .are))

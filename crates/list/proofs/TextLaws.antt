@@ -83,6 +83,10 @@ put-put {a} {s} {b} {t} {c} {at} {m} {end} p q =
       within = q .within;
     }
 
+-- the buffer after a text is put, and where the text ends, are one
+pub put-one : {before text after last : List ℕ} {at end stop : ℕ} → Put before at text after end → Put before at text last stop → (after ≡ last) × (end ≡ stop)
+put-one p q = (p .is ∙ sym (q .is), p .ends ∙ sym (q .ends))
+
 -- nothing is put yet
 pub put-none : (before : List ℕ) (at : ℕ) → at ≤ length before → Put before at [] before at
 put-none before at h =
