@@ -12,35 +12,38 @@ use lib.ListN.{length, take}
 use lib.Seq.{length-take-le}
 use Rattle.io.specs.Counts.{Counts}
 use Rattle.reading.specs.Reading.{Cursor, Item, overAll, Stretch, Reading}
-use Rattle.channel.specs.Frames.{Capture, captureOf, Frame, rules}
+use Rattle.channel.specs.Frames.{Capture, Frame, rules}
 use Rattle.channel.proofs.ChannelLaws.{exists}
 use Rattle.record.specs.Record.{recordOf, records}
 use Rattle.record.proofs.RecordLaws.{record-length, size-le}
 use Rattle.bellrope.specs.declared.Answer.{Answer}
-use Rattle.bellrope.specs.Paging.{directionOf, cursorAt, refusalOf, refused, Page, firstLeft, taken, PagedBy, PageCall}
+use Rattle.bellrope.specs.Paging.{cursorAt, refusalOf, refused, Page, firstLeft, taken, PagedBy, PageCall}
 use Rattle.bellrope.proofs.CallLaws.{Admitted, admitted}
 use Rattle.bellrope.proofs.HarvestLaws.{Got, got, got-bytes, not-refused, stretch, progress, answered-good}
-use Rattle.list.specs.Listing.{numberOf}
+use Rattle.list.specs.Listing.{numberOf, wholeOf}
 
 -- the number that 1 to 3 give
-abbrev pub pageNumber : List ℕ → ℕ → ℕ → ℕ → ℕ → ℕ
-pageNumber capture n direction position context = refusalOf (length capture) n direction position context 4096
+abbrev pub pageNumber : List ℕ → ℕ → ℕ → ℕ → ℕ
+pageNumber capture direction position context = refusalOf (length capture) (8 * length capture) direction position context 4096
 
 -- at the beginning it is that of the listing
-pub number-due : (capture : List ℕ) (direction : ℕ) → pageNumber capture (8 * length capture) direction 0 0 ≡ numberOf capture direction
+pub number-due : (capture : List ℕ) (direction : ℕ) → pageNumber capture direction 0 0 ≡ numberOf capture direction
 number-due capture direction = rw (le-ltb (8 * length capture) (8 * length capture) (omega arith), le-ltb (8 * length capture) 0 (omega arith))
 
-module _ (capture : List ℕ) (n direction position context : ℕ) (buffer : List ℕ) (a : Answer) (after : List ℕ)
-    (call : PageCall capture n direction position context 4096 buffer a after) where
+module _ (capture : List ℕ) (direction position context : ℕ) (buffer : List ℕ) (a : Answer) (after : List ℕ)
+    (call : PageCall capture (8 * length capture) direction position context 4096 buffer a after) where
+  abbrev n : ℕ
+  n = 8 * length capture
+
   abbrev w : Capture
-  w = captureOf capture n (directionOf direction)
+  w = wholeOf capture direction
 
   abbrev c : Cursor ℕ
   c = cursorAt position context
 
   -- a page that has room for the largest record is not refused with 4
-  pub number-is : 31 ≤ length buffer → a .number ≡ pageNumber capture n direction position context
-  number-is room = by-number (pageNumber capture n direction position context) refl call
+  pub number-is : 31 ≤ length buffer → a .number ≡ pageNumber capture direction position context
+  number-is room = by-number (pageNumber capture direction position context) refl call
     where
       first-fits : Admitted (length capture) n direction position context 4096 → Page w c 4096 (length buffer) [] → position < n → ⊥
       first-fits h p l = go (r .0) (r .1)
@@ -63,26 +66,27 @@ module _ (capture : List ℕ) (n direction position context : ℕ) (buffer : Lis
           by-test false t e = ap (λ (b : Answer). b .number) e
       by-page h (x ∷ xs) p e = ap (λ (b : Answer). b .number) e
 
-      by-number : (number : ℕ) → pageNumber capture n direction position context ≡ number → PagedBy number w c 4096 buffer a after → a .number ≡ number
+      by-number : (number : ℕ) → pageNumber capture direction position context ≡ number → PagedBy number w c 4096 buffer a after → a .number ≡ number
       by-number zero e (xs, p, t, q) = by-page (admitted (length capture) n direction position context 4096 0 (sym e) refl) xs p t
       by-number (suc number) e (t, q) = ap (λ (b : Answer). b .number) t
 
 -- a page that is not refused
-pub record PageTaken (capture : List ℕ) (n direction position context : ℕ) (a : Answer) (after : List ℕ) : Type 0 where
+pub record PageTaken (capture : List ℕ) (direction position context : ℕ) (a : Answer) (after : List ℕ) : Type 0 where
   pub items : List (Item Frame)
-  pub stretch : Stretch rules (captureOf capture n (directionOf direction)) (cursorAt position context) items
+  pub stretch : Stretch rules (wholeOf capture direction) (cursorAt position context) items
   pub moved : overAll rules (cursorAt position context) items ≡ cursorAt (a .position) (a .context)
   pub within : Counts (a .bytes) after
   pub bytes : take (a .bytes) after ≡ records items
-  pub asked : pageNumber capture n direction position context ≡ 0
-  pub answered : pageNumber capture n direction (a .position) (a .context) ≡ 0
-  pub inside : a .position ≤ n
-  pub further : position < n → position < a .position
+  pub asked : pageNumber capture direction position context ≡ 0
+  pub answered : pageNumber capture direction (a .position) (a .context) ≡ 0
+  pub inside : a .position ≤ 8 * length capture
+  pub further : position < 8 * length capture → position < a .position
 
-pub page-taken : (capture : List ℕ) (n direction position context : ℕ) (buffer : List ℕ) (a : Answer) (after : List ℕ) → PageCall capture n direction position context 4096 buffer a after
-    → length after ≡ length buffer → a .number ≡ 0 → PageTaken capture n direction position context a after
-page-taken capture n direction position context buffer a after call e z =
-    let g : Got (captureOf capture n (directionOf direction)) (cursorAt position context) 4096 buffer a after = got capture n direction position context 4096 buffer a after call z in
+pub page-taken : (capture : List ℕ) (direction position context : ℕ) (buffer : List ℕ) (a : Answer) (after : List ℕ) → PageCall capture (8 * length capture) direction position context 4096 buffer a after
+    → length after ≡ length buffer → a .number ≡ 0 → PageTaken capture direction position context a after
+page-taken capture direction position context buffer a after call e z =
+    let n : ℕ = 8 * length capture in
+    let g : Got (wholeOf capture direction) (cursorAt position context) 4096 buffer a after = got capture n direction position context 4096 buffer a after call z in
     let good = answered-good capture n direction position context 4096 buffer a after call z 4096 (lit< tt) in
     let h : a .bytes ≤ length after = omega (arith, ap (λ (b : Answer). b .bytes) (g .answered), g .longest .fits) in
     record {

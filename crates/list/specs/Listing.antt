@@ -7,7 +7,7 @@ use Prim.Native.Nat.{ℕ, zero, suc, _*_}
 use lib.Dec.{ltb}
 use lib.ListN.{length}
 use Rattle.reading.specs.Reading.{Item, Reading}
-use Rattle.channel.specs.Frames.{captureOf, Frame, rules, beginning}
+use Rattle.channel.specs.Frames.{Capture, captureOf, Frame, rules, beginning}
 use Rattle.bellrope.specs.Paging.{directionOf}
 use Rattle.list.specs.Line.{refusalLine, linesOf, Put}
 
@@ -15,10 +15,13 @@ use Rattle.list.specs.Line.{refusalLine, linesOf, Put}
 abbrev pub numberOf : List ℕ → ℕ → ℕ
 numberOf capture direction = cond (ltb 1 direction) 1 (cond (ltb 65536 (length capture)) 2 0)
 
--- by the number: one line for each item of the reading from the beginning, in order, n being eight times the length; on a refusal only its line
+-- the capture that is read: all bits of its bytes, n being eight times its length
+abbrev pub wholeOf : List ℕ → ℕ → Capture
+wholeOf capture direction = captureOf capture (8 * length capture) (directionOf direction)
+
+-- by the number: one line for each item of the reading from the beginning, in order; on a refusal only its line
 abbrev pub TextBy : ℕ → List ℕ → ℕ → List ℕ → Type 0
-TextBy zero capture direction text =
-    (xs : List (Item Frame)) × Reading rules (captureOf capture (8 * length capture) (directionOf direction)) beginning xs × (text ≡ linesOf xs)
+TextBy zero capture direction text = (xs : List (Item Frame)) × Reading rules (wholeOf capture direction) beginning xs × (text ≡ linesOf xs)
 TextBy (suc number) capture direction text = text ≡ refusalLine (suc number)
 
 -- the text for a capture and its direction

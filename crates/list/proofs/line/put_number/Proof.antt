@@ -3,7 +3,6 @@
 use Prim.Native.Nat.{_≤_}
 use native.Mathlib.Omega.{arith}
 use borrow.Author.Needs.{needs}
-use lib.ListN.{take}
 use Rattle.list.proofs.TextLaws.{digits-most, few-digits, number-put}
 use Rattle.list.proofs.line.put_number.Statement.{statement}
 use Rattle.list.proofs.line.put_number.Tie as tie

@@ -2,7 +2,7 @@
 -- beginning to the cursor.
 -- Assumes nothing.
 use mathlib.Core.Path.{_≡_, refl, sym, _∙_}
-use Prim.Native.Nat.{_*_, _-_}
+use Prim.Native.Nat.{_-_}
 use native.Mathlib.Omega.{arith}
 use borrow.Author.Needs.{needs}
 use lib.ListN.{length}
@@ -13,7 +13,7 @@ use Rattle.list.proofs.listing.list.Tie as tie
 
 abbrev Inv-loop : tie.InvT-loop
 Inv-loop capture direction out₀ n buffer₀ position₀ context₀ end₀ out buffer position context end =
-    Ongoing capture n direction position context out₀ out end × (length buffer ≡ 4096) × (length out ≡ length out₀)
+    Ongoing capture direction position context out₀ out end × (length buffer ≡ 4096) × (length out ≡ length out₀)
 
 abbrev μ-loop : tie.MeasureT-loop
 μ-loop capture direction out₀ n buffer₀ position₀ context₀ end₀ out buffer position context end = n - position
@@ -27,7 +27,7 @@ buffer-requires c κs = search needs
 loop-holds : tie.Need-loop-holds Inv-loop μ-loop
 loop-holds c =
     let a = c .before .before .before .args in
-    (begins (a .capture .now) (8 * length (a .capture .now)) (a .direction) (a .out .now), sym (c .buffer .ensures), refl)
+    (begins (a .capture .now) (a .direction) (a .out .now), sym (c .buffer .ensures), refl)
 
 slice-aggregate-bellrope-page : tie.Need-slice-aggregate-bellrope-page Inv-loop μ-loop
 slice-aggregate-bellrope-page c = sym (c .before .loop .inv .1)
@@ -48,7 +48,7 @@ returns c =
     let the-page = c .before .before .before .before .before .before .before .bellrope-page in
     let after = the-page .last .1 .1 .1 .1 .1 .1 .0 in
     let p = c .before .before .put-refusal in
-    let number = number-is (a .capture .now) (8 * length (a .capture .now)) (a .direction) (l .position) (l .context) (l .buffer) (the-page .result) after (the-page .ensures) (omega (arith, l .inv .1)) in
+    let number = number-is (a .capture .now) (a .direction) (l .position) (l .context) (l .buffer) (the-page .result) after (the-page .ensures) (omega (arith, l .inv .1)) in
     refused-listing (a .capture .now) (a .direction) (l .position) (l .context) (a .out .now) (l .out) (l .end) (l .inv .0) (the-page .result .number) (p .last .0) (p .result) number (c .before .before .before .before .if1 .taken) (p .ensures)
 
 array-share-prefix-buffer : tie.Need-array-share-prefix-buffer Inv-loop μ-loop
@@ -57,7 +57,7 @@ array-share-prefix-buffer c =
     let l = c .before .before .before .before .before .before .loop in
     let the-page = c .before .before .before .before .bellrope-page in
     let after = the-page .last .1 .1 .1 .1 .1 .1 .0 in
-    let page = page-taken (a .capture .now) (8 * length (a .capture .now)) (a .direction) (l .position) (l .context) (l .buffer) (the-page .result) after (the-page .ensures) (the-page .kept .1 .1 .1 .1 .1 .1 .0) (c .before .if1 .left) in
+    let page = page-taken (a .capture .now) (a .direction) (l .position) (l .context) (l .buffer) (the-page .result) after (the-page .ensures) (the-page .kept .1 .1 .1 .1 .1 .1 .0) (c .before .if1 .left) in
     page .within .0
 
 slice-aggregate-put-lines : tie.Need-slice-aggregate-put-lines Inv-loop μ-loop
@@ -66,7 +66,7 @@ slice-aggregate-put-lines c =
     let l = c .before .before .before .before .before .before .before .loop in
     let the-page = c .before .before .before .before .before .bellrope-page in
     let after = the-page .last .1 .1 .1 .1 .1 .1 .0 in
-    let page = page-taken (a .capture .now) (8 * length (a .capture .now)) (a .direction) (l .position) (l .context) (l .buffer) (the-page .result) after (the-page .ensures) (the-page .kept .1 .1 .1 .1 .1 .1 .0) (c .before .before .if1 .left) in
+    let page = page-taken (a .capture .now) (a .direction) (l .position) (l .context) (l .buffer) (the-page .result) after (the-page .ensures) (the-page .kept .1 .1 .1 .1 .1 .1 .0) (c .before .before .if1 .left) in
     page .within .1
 
 put-lines-requires : tie.Need-put-lines-requires Inv-loop μ-loop
@@ -75,7 +75,7 @@ put-lines-requires c κs =
     let l = c .before .before .before .before .before .before .before .loop in
     let the-page = c .before .before .before .before .before .bellrope-page in
     let after = the-page .last .1 .1 .1 .1 .1 .1 .0 in
-    let page = page-taken (a .capture .now) (8 * length (a .capture .now)) (a .direction) (l .position) (l .context) (l .buffer) (the-page .result) after (the-page .ensures) (the-page .kept .1 .1 .1 .1 .1 .1 .0) (c .before .before .if1 .left) in
+    let page = page-taken (a .capture .now) (a .direction) (l .position) (l .context) (l .buffer) (the-page .result) after (the-page .ensures) (the-page .kept .1 .1 .1 .1 .1 .1 .0) (c .before .before .if1 .left) in
     page-records (a .capture .now) (a .direction) (l .position) (l .context) (a .out .now) (l .out) (l .end) (l .inv .0) (the-page .result) after page (c .before .before .before .before .before .before .before .before .before .before .before .pre .0) (omega (arith, c .before .before .before .before .before .before .before .before .before .before .before .pre .1, l .inv .2))
 
 same-length-2 : tie.Need-same-length-2 Inv-loop μ-loop
@@ -87,7 +87,7 @@ returns-2 c =
     let l = c .before .before .before .before .before .before .before .before .before .before .before .before .loop in
     let the-page = c .before .before .before .before .before .before .before .before .before .before .bellrope-page in
     let after = the-page .last .1 .1 .1 .1 .1 .1 .0 in
-    let page = page-taken (a .capture .now) (8 * length (a .capture .now)) (a .direction) (l .position) (l .context) (l .buffer) (the-page .result) after (the-page .ensures) (the-page .kept .1 .1 .1 .1 .1 .1 .0) (c .before .before .before .before .before .before .before .if1 .left) in
+    let page = page-taken (a .capture .now) (a .direction) (l .position) (l .context) (l .buffer) (the-page .result) after (the-page .ensures) (the-page .kept .1 .1 .1 .1 .1 .1 .0) (c .before .before .before .before .before .before .before .if1 .left) in
     let p = c .before .before .before .before .put-lines in
     listed (a .capture .now) (a .direction) (l .position) (l .context) (a .out .now) (l .out) (l .end) (l .inv .0) (the-page .result) after page (c .before .before .before .before .before .before .before .before .before .before .before .before .before .before .before .before .pre .0) (p .last .0) (p .result) (p .ensures) (c .if2 .taken)
 
@@ -97,7 +97,7 @@ loop-less c =
     let l = c .before .before .before .before .before .before .before .before .before .before .before .before .loop in
     let the-page = c .before .before .before .before .before .before .before .before .before .before .bellrope-page in
     let after = the-page .last .1 .1 .1 .1 .1 .1 .0 in
-    let page = page-taken (a .capture .now) (8 * length (a .capture .now)) (a .direction) (l .position) (l .context) (l .buffer) (the-page .result) after (the-page .ensures) (the-page .kept .1 .1 .1 .1 .1 .1 .0) (c .before .before .before .before .before .before .before .if1 .left) in
+    let page = page-taken (a .capture .now) (a .direction) (l .position) (l .context) (l .buffer) (the-page .result) after (the-page .ensures) (the-page .kept .1 .1 .1 .1 .1 .1 .0) (c .before .before .before .before .before .before .before .if1 .left) in
     omega (arith, page .further (l .inv .0 .ahead (omega (arith, page .inside))))
 
 loop-again : tie.Need-loop-again Inv-loop μ-loop
@@ -106,7 +106,7 @@ loop-again c =
     let l = c .before .before .before .before .before .before .before .before .before .before .before .before .loop in
     let the-page = c .before .before .before .before .before .before .before .before .before .before .bellrope-page in
     let after = the-page .last .1 .1 .1 .1 .1 .1 .0 in
-    let page = page-taken (a .capture .now) (8 * length (a .capture .now)) (a .direction) (l .position) (l .context) (l .buffer) (the-page .result) after (the-page .ensures) (the-page .kept .1 .1 .1 .1 .1 .1 .0) (c .before .before .before .before .before .before .before .if1 .left) in
+    let page = page-taken (a .capture .now) (a .direction) (l .position) (l .context) (l .buffer) (the-page .result) after (the-page .ensures) (the-page .kept .1 .1 .1 .1 .1 .1 .0) (c .before .before .before .before .before .before .before .if1 .left) in
     let p = c .before .before .before .before .put-lines in
     (goes-on (a .capture .now) (a .direction) (l .position) (l .context) (a .out .now) (l .out) (l .end) (l .inv .0) (the-page .result) after page (c .before .before .before .before .before .before .before .before .before .before .before .before .before .before .before .before .pre .0) (p .last .0) (p .result) (p .ensures) (omega arith), the-page .kept .1 .1 .1 .1 .1 .1 .0 ∙ l .inv .1, p .kept .0 ∙ l .inv .2)
 
