@@ -126,9 +126,9 @@ pub without-direction : (input : List ℕ) → length input ≡ 0 → Listing in
 without-direction [] e = refl
 without-direction (d ∷ capture) e = absurd (omega arith)
 
-pub with-direction : (input text : List ℕ) → (length input ≡ 0 → ⊥) → Text (take (length input - 1) (drop 1 input)) (getD input 0 0) text → Listing input text
-with-direction [] text z t = absurd (z refl)
-with-direction (d ∷ capture) text z t = subst (λ (s : List ℕ). Text s d text) (take-all (length (d ∷ capture) - 1) capture (omega arith)) t
+pub with-direction : (input text : List ℕ) (direction : ℕ) → (length input ≡ 0 → ⊥) → direction ≡ getD input 0 0 → Text (take (length input - 1) (drop 1 input)) direction text → Listing input text
+with-direction [] text direction z e t = absurd (z refl)
+with-direction (d ∷ capture) text direction z e t = rw (e, take-all (length (d ∷ capture) - 1) capture (omega arith)) at t
 
 -- one text at most is the listing of some input
 pub one-text : (input s t : List ℕ) → Listing input s → Listing input t → s ≡ t

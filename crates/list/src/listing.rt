@@ -1,6 +1,7 @@
 // The listing of some input as one text, put into a lent buffer page by page.
-ghost use Prim.Native.Nat.{_≤_};
-ghost use lib.ListN.{length};
+ghost use mathlib.Core.Path.{_≡_};
+ghost use Prim.Native.Nat.{_≤_, _<_};
+ghost use lib.ListN.{length, getD};
 ghost use Rattle.list.specs.Listing.{Text, Listing, Listed};
 use crate::line;
 use crate::page;
@@ -38,6 +39,14 @@ fn list(capture: &[u8], direction: u8, out: &mut [u8]) -> usize
     }
 }
 
+// The direction: the first byte of the input.
+fn direction_of(input: &[u8]) -> u8
+    requires { ⌜ 0 < length (now input) ⌝ }
+    ensures { λ r. ⌜ r ≡ getD (now (input .entry)) 0 0 ⌝ }
+{
+    input[0]
+}
+
 // Puts the listing of some input, one byte of direction and then the capture, and answers where its text ends. Input without a direction byte is refused
 // with 1, as a direction above 1 is.
 pub fn listing(input: &[u8], out: &mut [u8]) -> usize
@@ -47,5 +56,5 @@ pub fn listing(input: &[u8], out: &mut [u8]) -> usize
     if input.len() == 0 {
         return line::put_refusal(out, 1);
     }
-    list(&input[1..], input[0], out)
+    list(&input[1..], direction_of(input), out)
 }

@@ -25,8 +25,8 @@ part-list-start c = search needs
 part-list-end : tie.Need-part-list-end
 part-list-end c = search needs
 
-shared-slice-read-list : tie.Need-shared-slice-read-list
-shared-slice-read-list c = search needs
+direction-of-requires : tie.Need-direction-of-requires
+direction-of-requires c κs = search needs
 
 list-requires : tie.Need-list-requires
 list-requires c κs = search needs
@@ -37,8 +37,9 @@ same-length-2 c = search needs
 returns-2 : tie.Need-returns-2
 returns-2 c =
     let a = c .before .before .before .before .before .before .before .before .before .args in
+    let d = c .before .before .before .before .direction-of in
     let l = c .before .before .list .ensures in
-    record { text = l .text; is = with-direction (a .input .now) (l .text) (omega arith) (l .is); put = l .put }
+    record { text = l .text; is = with-direction (a .input .now) (l .text) (d .result) (omega arith) (d .ensures) (l .is); put = l .put }
 
 pub listing-spec : {M : Type 1} → statement M
 listing-spec =
@@ -50,7 +51,7 @@ listing-spec =
     sub-list
     part-list-start
     part-list-end
-    shared-slice-read-list
+    direction-of-requires
     list-requires
     same-length-2
     returns-2)
