@@ -1,45 +1,75 @@
-// The calls of the C front server.
-mod paging;
-mod writing;
+// The calls of the C front server: the numbers and byte slices of each, handed to the room that does the work, with its promise.
+ghost use Rattle.paging.specs.Paging.{PageCall};
+ghost use Rattle.writing.specs.Writing.{WriteCall};
+use call::Answer;
+use call::CursorNumbers;
+use call::TermNumbers;
 
-use channel::Direction;
-pub use paging::bellrope_page;
-pub use writing::bellrope_write;
-ghost use mathlib.Core.Path.{_≡_};
-ghost use Rattle.bellrope.specs.Paging.{directionOf, refusedAt};
-
-// What a call answers: its number (0, or that of the refusal), the index of the record refused, the items and bytes, and the cursor moved on.
-#[repr(C)]
-pub struct Answer {
-    pub number: u64,
-    pub index: u64,
-    pub items: u64,
-    pub bytes: u64,
-    pub position: u64,
-    pub context: u64,
+// A page of records from a cursor: the longest leading part of the reading that keeps to the count and fits the buffer; items, bytes, and the cursor
+// moved on.
+#[no_mangle]
+pub extern "C" fn bellrope_page(
+    capture: &[u8],
+    n: u64,
+    direction: u64,
+    position: u64,
+    context: u64,
+    most: u64,
+    buffer: &mut [u8],
+) -> Answer
+    ensures { λ r.
+        ⌜ PageCall
+        (now (capture .entry))
+        (record { n = n; terms = record { direction = direction }; cursor = record { position = position; context = context }; most = most })
+        (now (buffer .entry))
+        r
+        (now (buffer .exit)) ⌝ }
+{
+    paging::page(
+        capture,
+        paging::Request {
+            n: n,
+            terms: TermNumbers {
+                direction: direction,
+            },
+            cursor: CursorNumbers {
+                position: position,
+                context: context,
+            },
+            most: most,
+        },
+        buffer,
+    )
 }
 
-// The direction by its number.
-fn direction_of(direction: u64) -> Direction
-    ensures { λ r. ⌜ r ≡ directionOf direction ⌝ }
+// Records back to bits, from the cursor's position on: body and tail bits are put, other bits keep their value; items and the cursor after.
+#[no_mangle]
+pub extern "C" fn bellrope_write(
+    records: &[u8],
+    direction: u64,
+    position: u64,
+    context: u64,
+    buffer: &mut [u8],
+) -> Answer
+    ensures { λ r.
+        ⌜ WriteCall
+        (now (records .entry))
+        (record { terms = record { direction = direction }; cursor = record { position = position; context = context } })
+        (now (buffer .entry))
+        r
+        (now (buffer .exit)) ⌝ }
 {
-    if direction == 0 {
-        Direction::Uplink
-    } else {
-        Direction::Downlink
-    }
-}
-
-// The answer of a refusal: its number, the index of the record refused, and the cursor as given.
-fn refuse(number: u64, index: u64, position: u64, context: u64) -> Answer
-    ensures { λ r. ⌜ r ≡ refusedAt number index position context ⌝ }
-{
-    Answer {
-        number: number,
-        index: index,
-        items: 0,
-        bytes: 0,
-        position: position,
-        context: context,
-    }
+    writing::write(
+        records,
+        writing::Request {
+            terms: TermNumbers {
+                direction: direction,
+            },
+            cursor: CursorNumbers {
+                position: position,
+                context: context,
+            },
+        },
+        buffer,
+    )
 }

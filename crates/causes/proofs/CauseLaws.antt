@@ -34,14 +34,13 @@ use Rattle.channel.proofs.FrameLaws.{uncut}
 use Rattle.channel.proofs.CutLaws.{control-cut, extended-cut}
 use Rattle.channel.specs.declared.Found.{Found}
 use Rattle.channel.specs.declared.Found.the-variants.{Is, Nothing}
-use Rattle.dbits.specs.DBits.{dBytes}
+use Rattle.channel.specs.Record.{dBytes, wide, numberAt, dLength, recordOf}
 use Rattle.dbits.proofs.DBitLaws.{d-length, fromTop-bit, bytes-bit}
-use Rattle.record.specs.Record.{wide, numberAt, dLength, recordOf}
 use Rattle.record.specs.Built.{extendedPlaces}
 use Rattle.record.proofs.RecordLaws.{d-length-le, bytes-cut}
 use Rattle.record.proofs.BuiltLaws.{body-framed, ones-last, extended-top}
 use Rattle.record.proofs.OneLaws.{cut-cut, d-long}
-use Rattle.judge.specs.Sound.{SoundAs, Unsound}
+use Rattle.channel.specs.Sound.{SoundAs, Unsound}
 use Rattle.judge.specs.Judged.{kindBy}
 use Rattle.judge.proofs.SoundLaws.{kind-none, is-not, front-kind, front-long, front-tail, front-control, front-extended, front-d}
 use Rattle.causes.specs.Causes.{setBehind, hrControl, controlCoded, extendedCoded, caseOf, faulty}

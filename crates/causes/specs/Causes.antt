@@ -17,7 +17,7 @@ use Rattle.channel.specs.Coding.{bitsAt, all, c4Coded, speechXc}
 use Rattle.channel.specs.Control.{controlPlaces}
 use Rattle.channel.specs.declared.Found.{Found}
 use Rattle.channel.specs.declared.Found.the-variants.{Is, Nothing}
-use Rattle.record.specs.Record.{numberAt, dLength}
+use Rattle.channel.specs.Record.{numberAt, dLength}
 use Rattle.record.specs.Built.{extendedPlaces}
 use Rattle.judge.specs.Judged.{kindBy}
 

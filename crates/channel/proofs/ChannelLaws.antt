@@ -1,7 +1,7 @@
 -- The laws of a reading at the 8 kbit/s channel: for each capture and cursor not beyond n exactly one list obeys the rules.
 -- Assumes nothing.
 use mathlib.Core.Path.{_≡_}
-use mathlib.Core.List.{List, [], _++_}
+use mathlib.Core.List.{List, _++_}
 use Prim.Native.Nat.{_≤_}
 use Rattle.reading.specs.Reading.{Cursor, Item, overAll, Stretch, Reading, Pages, joined}
 use Rattle.reading.proofs.ReadingLaws as laws

@@ -1,9 +1,9 @@
 -- The division that Crc.rem carries out is division by X^3 + X + 1: what it gives is left, and nothing else is. Proved once, over the length.
 -- Assumes nothing.
 use mathlib.Core.Path.{_≡_, refl, sym, _∙_, ap, subst, fun-ext}
-use mathlib.Core.Bool.{Bool, true, false, not, _&&_}
+use mathlib.Core.Bool.{Bool, true, false, _&&_}
 use mathlib.Core.List.{List, [], _∷_}
-use Prim.Native.Nat.{ℕ, zero, suc, _+_, _≤_, _<_}
+use Prim.Native.Nat.{ℕ, zero, suc, _+_, _≤_}
 use native.Mathlib.Omega.{arith}
 use native.Mathlib.Decide.{ℕ-discrete}
 use Rattle.channel.specs.Poly.{_⊕_, Poly, byX, byG, polyFrom, poly, Rem, remPoly, Leaves}

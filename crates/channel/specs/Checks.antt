@@ -1,16 +1,14 @@
 -- What each CRC covers (document 01, "CRC" and "Mode of kind 6"; TS 48.061, 5.2.4.1.1 and 5.2.4.2.2 to 5.2.4.2.4).
 -- A check is the list of the places that a CRC covers, in listed order, and then the CRC's own three. Assumes nothing.
-use mathlib.Core.Bool.{Bool, true, false, cond}
+use mathlib.Core.Bool.{cond}
 use mathlib.Core.List.{List, [], _∷_, _++_, map}
-use Prim.Native.Nat.{ℕ, zero, suc, _+_, _-_}
-use lib.Dec.{eqb, ltb}
+use Prim.Native.Nat.{ℕ, _+_, _-_}
+use lib.Dec.{ltb}
 use lib.ListN.{getD}
 use Rattle.channel.specs.declared.Pattern.the-variants.{Low, P670, P740}
 use Rattle.channel.specs.declared.Kind.{Kind}
 use Rattle.channel.specs.declared.Kind.the-variants.{Speech, Data, Om, Configuration, NoSpeech, Lower, Amr670, Amr740}
-use Rattle.channel.specs.Kinds.{dCount}
 use Rattle.channel.specs.Places.{upto, cPlaces, crcPlaces, dPlaces}
-use Rattle.channel.specs.Coding.{Word, c1to3}
 
 -- the places of D bits by their numbers, from 1
 abbrev pub d : Kind → List ℕ → List ℕ

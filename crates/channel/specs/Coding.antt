@@ -1,6 +1,6 @@
 -- Fixed bits and coding of a body (document 01, "Frames", the table of patterns, and "Coding"; TS 48.061, 5.2.4.1 and 5.2.4.2).
 -- Assumes nothing.
-use mathlib.Core.Bool.{Bool, true, false, not, _&&_}
+use mathlib.Core.Bool.{Bool, true, not, _&&_}
 use mathlib.Core.List.{List, [], _∷_, _++_, map}
 use Prim.Native.Nat.{ℕ, _+_, _%_}
 use lib.Dec.{eqb, ltb}
@@ -9,7 +9,7 @@ use Rattle.bits.specs.Bit.{toN, number}
 use Rattle.channel.specs.declared.Direction.{Direction}
 use Rattle.channel.specs.declared.Direction.the-variants.{Uplink, Downlink}
 use Rattle.channel.specs.declared.Pattern.{Pattern}
-use Rattle.channel.specs.declared.Pattern.the-variants.{Hr, Low, P670, P740}
+use Rattle.channel.specs.declared.Pattern.the-variants.{Hr, Low}
 use Rattle.channel.specs.declared.Kind.{Kind}
 use Rattle.channel.specs.declared.Kind.the-variants.{Speech, Data, Om, Configuration, NoSpeech, Lower, Amr670, Amr740}
 use Rattle.channel.specs.Kinds.{patternOf}

@@ -1,7 +1,7 @@
 -- The control and extended bytes of a frame's record (document 01, "Records and calls").
 -- Assumes nothing.
 use mathlib.Core.Bool.{Bool, false}
-use mathlib.Core.List.{List, [], _∷_, _++_}
+use mathlib.Core.List.{List, _++_}
 use Prim.Native.Nat.{ℕ}
 use lib.ListN.{take, replicate}
 use Rattle.bits.specs.Bit.{number}

@@ -1,6 +1,6 @@
 -- The CRC (document 01, "CRC"; TS 48.061, 5.1.4.1.1): the division of a word by X^3 + X + 1, carried out bit by bit.
 -- That what it gives is the remainder is proved in proofs/PolyLaws. Assumes nothing.
-use mathlib.Core.Bool.{Bool, true, false, _&&_}
+use mathlib.Core.Bool.{Bool, false, _&&_}
 use mathlib.Core.List.{List, [], _∷_}
 use Prim.Native.Nat.{ℕ}
 use Rattle.channel.specs.Poly.{_⊕_, Rem}

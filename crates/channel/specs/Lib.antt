@@ -7,4 +7,6 @@ pub mod Checks
 pub mod Verdict
 pub mod Control
 pub mod Frames
+pub mod Record
+pub mod Sound
 pub mod Examples

@@ -1,6 +1,6 @@
 -- Where the fixed bits, C bits, XC bits, CRC bits and D bits stand (document 01, "Frames"; TS 48.061, 5.2.1 to 5.2.3).
 -- A place is a bit of the frame in the order of sending, counted from 0 (5.2.5). Assumes nothing.
-use mathlib.Core.Bool.{Bool, true, false, not, _&&_, cond}
+use mathlib.Core.Bool.{Bool, true, false, cond}
 use mathlib.Core.List.{List, [], _∷_, _++_, map}
 use Prim.Native.Nat.{ℕ, suc, _+_, _*_, _-_}
 use lib.Dec.{eqb}

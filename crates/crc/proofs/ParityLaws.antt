@@ -15,8 +15,8 @@ use Rattle.bits.specs.Bit.{toN, number}
 use Rattle.channel.specs.Poly.{_⊕_, Rem}
 use Rattle.channel.specs.Coding.{Word, bitsAt, ones}
 use Rattle.channel.specs.Crc.{push}
-use Rattle.word.specs.Words.{held}
-use Rattle.word.proofs.FieldLaws.{shl-one, held-field}
+use Rattle.word.specs.Words.{fieldAt}
+use Rattle.word.proofs.FieldLaws.{shl-one, field-in}
 use Rattle.crc.specs.Taps.{power, taps, ParityOf}
 use Rattle.crc.proofs.TapLaws.{power-next}
 
@@ -89,8 +89,8 @@ turned (suc k) w a =
     rw (l, r, turn-high a k .0, turn-high a k .1, ← e) (omega (arith, i))
 
 -- a bit of a number that holds some
-held-bit : (g : Word) (n p j i k : ℕ) → j < n → p + j ≡ i → n - suc j ≡ k → held g n p / 2 ^ k % 2 ≡ toN (g i)
-held-bit g n p j i k h e f = rw (← e) (rw (← f) (held-field g n p j 1 (n - suc j) (omega arith)) ∙ one (g (p + j)))
+field-bit : (g : Word) (n p j i k : ℕ) → j < n → p + j ≡ i → n - suc j ≡ k → fieldAt g n p / 2 ^ k % 2 ≡ toN (g i)
+field-bit g n p j i k h e f = rw (← e) (rw (← f) (field-in g n p j 1 (n - suc j) (omega arith)) ∙ one (g (p + j)))
   where
     one : (b : Bool) → number (b ∷ []) ≡ toN b
     one b = omega arith
@@ -119,21 +119,21 @@ module _ (ps : List ℕ) (t : Bool) (a b c p x : ℕ) (e : x ≡ toN t) (h : Par
   pub tap-first : p < 64 → ParityOf (cond t (p ∷ ps) ps) (bitXor a (x * 2 ^ (63 - p) % 2 ^ 64)) b c
   tap-first l = record {
     odd-alike = λ g u v w s.
-        let bit : u / 2 ^ (63 - p) % 2 ≡ toN (g p) = rw (s .first) (held-bit g 64 0 p p (63 - p) l (zero-add p) (omega arith)) in
+        let bit : u / 2 ^ (63 - p) % 2 ≡ toN (g p) = rw (s .first) (field-bit g 64 0 p p (63 - p) l (zero-add p) (omega arith)) in
         sum-turned (Count.ones (bitAnd v b) + Count.ones (bitAnd w c)) _ _ _ _ _ _ _ (tapped t u a (63 - p) x (toN (g p)) e (omega arith) bit) (h .odd-alike g u v w s) (listed g t p ps) (omega arith) (omega arith);
   }
 
   pub tap-second : 64 ≤ p → p < 128 → ParityOf (cond t (p ∷ ps) ps) a (bitXor b (x * 2 ^ (127 - p) % 2 ^ 64)) c
   tap-second m l = record {
     odd-alike = λ g u v w s.
-        let bit : v / 2 ^ (127 - p) % 2 ≡ toN (g p) = rw (s .second) (held-bit g 64 64 (p - 64) p (127 - p) (omega arith) (omega arith) (omega arith)) in
+        let bit : v / 2 ^ (127 - p) % 2 ≡ toN (g p) = rw (s .second) (field-bit g 64 64 (p - 64) p (127 - p) (omega arith) (omega arith) (omega arith)) in
         sum-turned (Count.ones (bitAnd u a) + Count.ones (bitAnd w c)) _ _ _ _ _ _ _ (tapped t v b (127 - p) x (toN (g p)) e (omega arith) bit) (h .odd-alike g u v w s) (listed g t p ps) (omega arith) (omega arith);
   }
 
   pub tap-third : 128 ≤ p → p < 160 → ParityOf (cond t (p ∷ ps) ps) a b (bitXor c (x * 2 ^ (159 - p) % 2 ^ 64))
   tap-third m l = record {
     odd-alike = λ g u v w s.
-        let bit : w / 2 ^ (159 - p) % 2 ≡ toN (g p) = rw (s .third) (held-bit g 32 128 (p - 128) p (159 - p) (omega arith) (omega arith) (omega arith)) in
+        let bit : w / 2 ^ (159 - p) % 2 ≡ toN (g p) = rw (s .third) (field-bit g 32 128 (p - 128) p (159 - p) (omega arith) (omega arith) (omega arith)) in
         sum-turned (Count.ones (bitAnd u a) + Count.ones (bitAnd v b)) _ _ _ _ _ _ _ (tapped t w c (159 - p) x (toN (g p)) e (omega arith) bit) (h .odd-alike g u v w s) (listed g t p ps) (omega arith) (omega arith);
   }
 

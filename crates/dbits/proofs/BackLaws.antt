@@ -16,7 +16,8 @@ use lib.Seq.{set-getD, getD-set-other, drop-drop, length-take-le, getD-drop}
 use Rattle.bits.specs.Bit.{bitAt, count}
 use Rattle.bits.proofs.BitLaws.{byte-bit}
 use Rattle.bits.proofs.CountLaws.{length-count}
-use Rattle.put.specs.Put.{putRun, Shows, putBits, putPlaces}
+use Rattle.put.specs.Put.{putRun, Shows, putPlaces}
+use Rattle.bits.specs.Put.{putBits}
 use Rattle.put.proofs.PutLaws.{places-end, places-append, places-same, places-run}
 use Rattle.put.proofs.RunPutLaws.{run-masked, run-lt, top-put, pair-shows}
 use Rattle.dbits.specs.Back.{BackFrom, Rest}

@@ -22,7 +22,8 @@ use Rattle.channel.specs.Control.{fromTop}
 use Rattle.channel.proofs.FrameLaws.{body-high}
 use Rattle.channel.proofs.DLaws.{Rule, d-rule}
 use Rattle.word.specs.Below.{Below}
-use Rattle.dbits.specs.DBits.{allPlaces, dFrom, dBytes}
+use Rattle.dbits.specs.DBits.{allPlaces, dFrom}
+use Rattle.channel.specs.Record.{dBytes}
 
 -- a kind's part of the table is the list of its D places
 d-part : (k : Kind) → take (dCount k) (drop (dFrom k) allPlaces) ≡ dPlaces k

@@ -1,16 +1,13 @@
--- The table of D bits and the D bits as bytes (document 01, "Frames": "One constant table holds the place of each of the 1,022 D bits of the
--- eight kinds"; "Records and calls": "D bits from the top bit down, zero padded"). Assumes nothing.
+-- The table of D bits (document 01, "Frames": "One constant table holds the place of each of the 1,022 D bits of the eight kinds").
+-- Assumes nothing.
 use mathlib.Core.List.{List, map}
-use Prim.Native.Nat.{ℕ, suc, _*_, _<_}
-use lib.ListN.{length, getD, drop}
+use Prim.Native.Nat.{ℕ, suc, _<_}
+use lib.ListN.{length, getD}
 use Rattle.reading.specs.Reading.{joined}
-use Rattle.bits.specs.Bit.{count}
 use Rattle.channel.specs.declared.Kind.{Kind}
 use Rattle.channel.specs.declared.Kind.the-variants.{Speech, Data, Om, Configuration, NoSpeech, Lower, Amr670, Amr740}
 use Rattle.channel.specs.Kinds.{kinds}
 use Rattle.channel.specs.Places.{dPlaces}
-use Rattle.channel.specs.Coding.{Word, bitsAt}
-use Rattle.channel.specs.Control.{fromTop}
 
 -- the whole table: the places of the D bits of the eight kinds, one kind behind the other
 unfoldable pub allPlaces : List ℕ
@@ -26,10 +23,6 @@ dFrom NoSpeech = 483
 dFrom Lower = 608
 dFrom Amr670 = 734
 dFrom Amr740 = 871
-
--- the D bits of a word of a kind in 19 bytes, as many as the longest kind has: from the top bit down, zero padded
-unfoldable pub dBytes : Word → Kind → List ℕ
-dBytes g k = map (λ j. fromTop (drop (8 * j) (bitsAt g (dPlaces k)))) (count 19 0)
 
 -- each entry of a list is below the next
 abbrev pub Rising : List ℕ → Type 0

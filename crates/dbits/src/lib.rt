@@ -14,7 +14,8 @@ ghost use Rattle.channel.specs.Coding.{bitsAt};
 ghost use Rattle.channel.specs.Control.{fromTop};
 ghost use Rattle.word.specs.Below.{Below};
 ghost use Rattle.put.specs.Put.{putPlaces};
-ghost use Rattle.dbits.specs.DBits.{allPlaces, dFrom, dBytes, Rising};
+ghost use Rattle.dbits.specs.DBits.{allPlaces, dFrom, Rising};
+ghost use Rattle.channel.specs.Record.{dBytes};
 ghost use Rattle.dbits.specs.Back.{BackFrom, Rest};
 ghost use Rattle.dbits.specs.Plan.{Whole, FirstRun, FirstBy, FirstEnds, backOf, back, EntryBy, SmallAt, quickAt, PlanOf, oddOne, planFrom, Made, Plans, MadeMore, PlannedFrom};
 
@@ -277,16 +278,16 @@ fn with_part(o: [u8; 20], part: &[u8], d: &[u8], plan: &[u32], base: usize) -> [
     if n + 1 < odd {
         return put::at_places(o, part, d);
     }
-    let mut held = o;
+    let mut octets = o;
     if odd < 2 {
-        by_plan(&mut held, plan, base, d, 0, n);
-        return held;
+        by_plan(&mut octets, plan, base, d, 0, n);
+        return octets;
     }
     let i = odd - 2;
-    by_plan(&mut held, plan, base, d, 0, i);
-    held = with_byte(held, part, d, i);
-    by_plan(&mut held, plan, base, d, i + 1, n);
-    held
+    by_plan(&mut octets, plan, base, d, 0, i);
+    octets = with_byte(octets, part, d, i);
+    by_plan(&mut octets, plan, base, d, i + 1, n);
+    octets
 }
 
 // The way back: the D bits of a kind at their places, from bytes that have them from the top bit down.

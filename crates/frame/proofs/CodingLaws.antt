@@ -23,6 +23,7 @@ use Rattle.channel.proofs.BoolLaws.{all-at, and-both, and-false, never}
 use Rattle.channel.proofs.DLaws.{elem-count}
 use Rattle.channel.proofs.FrameLaws.{one-pattern, one-body}
 use Rattle.word.specs.Below.{Below}
+use Rattle.word.proofs.MaskLaws.{beq-same}
 use Rattle.channel.specs.declared.Found.{Found}
 use Rattle.channel.specs.declared.Found.the-variants.{Is, Nothing}
 use Rattle.frame.specs.declared.coding.Sync.{Sync}
@@ -88,14 +89,8 @@ module _ (g : Word) (t : Pattern) (h : fixed g t ≡ true) where
 abbrev everywhere : ℕ → (ℕ → Bool) → (ℕ → Bool) → Bool
 everywhere n t u = all (λ v. Bool·beq (t v) (u v)) (count n 0)
 
-beq-eq : (a b : Bool) → Bool·beq a b ≡ true → a ≡ b
-beq-eq true true h = refl
-beq-eq true false h = sym h
-beq-eq false true h = h
-beq-eq false false h = refl
-
 below-all : (n : ℕ) (t u : ℕ → Bool) → everywhere n t u ≡ true → (v : ℕ) → v < n → t v ≡ u v
-below-all n t u h v l = beq-eq (t v) (u v) (all-at (λ v. Bool·beq (t v) (u v)) (count n 0) v (elem-count v n 0 zero-le (omega arith)) h)
+below-all n t u h v l = beq-same (t v) (u v) (all-at (λ v. Bool·beq (t v) (u v)) (count n 0) v (elem-count v n 0 zero-le (omega arith)) h)
 
 -- the numbers of XC1..XC5 that are speech, as the code tests them
 pub up-number : (v : ℕ) → v < 32 → elem v (speechXc Uplink) ≡ cond (eqb (v / 4) 0) true (eqb (v / 8) 1)

@@ -11,11 +11,11 @@ use lib.ListN.{getD, List·getD-eq-default}
 use Rattle.bits.specs.Bit.{toN}
 use Rattle.channel.specs.declared.Pattern.the-variants.{Low}
 use Rattle.channel.specs.declared.Kind.{Kind}
-use Rattle.channel.specs.declared.Kind.the-variants.{Lower}
+use Rattle.channel.specs.declared.Kind.the-variants.{Speech, Data, Om, Configuration, NoSpeech, Lower, Amr670, Amr740}
 use Rattle.channel.specs.Coding.{Word, c1to3}
 use Rattle.channel.specs.Crc.{right}
 use Rattle.channel.specs.Checks.{checks, checksLower}
-use Rattle.channel.specs.Verdict.{Context, ownMode, contextMode, modeOf, unchecked, wrongs, verdictOf}
+use Rattle.channel.specs.Verdict.{Context, ownMode, contextMode, modeOf, unchecked, wrongs, verdictOf, afterOf}
 
 -- the mode that C1..C3 name, by their number c
 module _ (g : Word) (c : ℕ) (read : c ≡ c1to3 g Low) where
@@ -47,6 +47,17 @@ named-le (suc (suc (suc i))) = omega arith
 
 pub own-le : (g : Word) → ownMode g ≤ 3
 own-le g = named-le (c1to3 g Low)
+
+-- a frame leaves a context of 5 at most
+pub after-le : (x : Context) (g : Word) (k : Kind) → afterOf x g k ≤ 5
+after-le x g Speech = omega arith
+after-le x g Data = omega arith
+after-le x g Om = omega arith
+after-le x g Configuration = omega arith
+after-le x g NoSpeech = omega arith
+after-le x g Lower = omega (arith, own-le g)
+after-le x g Amr670 = omega arith
+after-le x g Amr740 = omega arith
 
 pub context-le : (x : Context) → contextMode x ≤ 3
 context-le zero = omega arith

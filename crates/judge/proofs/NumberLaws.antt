@@ -14,7 +14,7 @@ use Rattle.channel.proofs.CutLaws.{verdict-cut, allowed-by}
 use Rattle.item.specs.declared.Cursor.{Cursor}
 use Rattle.item.specs.Item.{cursorOf}
 use Rattle.judge.specs.declared.Record.{Record}
-use Rattle.judge.specs.Sound.{soundNumber}
+use Rattle.channel.specs.Sound.{soundNumber}
 use Rattle.judge.specs.Judged.{frameBy}
 
 module _ (r : Record) (k : Kind) (c : Cursor) (bits : ℕ) where

@@ -29,16 +29,15 @@ use Rattle.channel.proofs.FrameLaws.{one-body, uncut}
 use Rattle.item.specs.declared.ItemKind.the-variants as item-kind
 use Rattle.item.specs.declared.Item.{Item}
 use Rattle.item.specs.Item.{itemOf}
-use Rattle.dbits.specs.DBits.{dBytes}
+use Rattle.channel.specs.Record.{dBytes, numberAt, dLength, sizeOf, recordOf}
 use Rattle.dbits.specs.Plan.{Made, Plans, MadeMore}
 use Rattle.dbits.proofs.PlanLaws.{made-of}
-use Rattle.record.specs.Record.{numberAt, dLength, sizeOf, recordOf}
 use Rattle.record.specs.Size.{sizeBy}
 use Rattle.record.specs.Built.{fixedOctets, extendedPlaces, withParities, octetsBy}
 use Rattle.record.proofs.RecordLaws.{four-bytes, record-length}
 use Rattle.record.proofs.BuiltLaws.{body-framed, built}
 use Rattle.record.proofs.OneLaws.{kind-one, words-one, cut-cut, d-long}
-use Rattle.judge.specs.Sound.{SoundAs, Unsound}
+use Rattle.channel.specs.Sound.{SoundAs, Unsound}
 use Rattle.judge.specs.declared.RecordKind.{RecordKind}
 use Rattle.judge.specs.declared.RecordKind.the-variants as of
 use Rattle.judge.specs.declared.Record.{Record}

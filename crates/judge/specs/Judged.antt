@@ -16,12 +16,12 @@ use Rattle.dbits.specs.Plan.{Made, Plans}
 use Rattle.item.specs.declared.ItemKind.the-variants as item-kind
 use Rattle.item.specs.declared.Item.{Item}
 use Rattle.item.specs.Item.{frameOf}
-use Rattle.record.specs.Record.{numberAt, dLength}
+use Rattle.channel.specs.Record.{numberAt, dLength}
 use Rattle.record.specs.Built.{octetsBy}
 use Rattle.judge.specs.declared.RecordKind.{RecordKind}
 use Rattle.judge.specs.declared.RecordKind.the-variants as of
 use Rattle.judge.specs.declared.Record.{Record}
-use Rattle.judge.specs.Sound.{SoundAs, Unsound}
+use Rattle.channel.specs.Sound.{SoundAs, Unsound}
 
 -- the kind by its number
 abbrev pub kindBy : ℕ → Found

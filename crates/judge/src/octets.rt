@@ -8,7 +8,7 @@ ghost use Rattle.put.specs.Put.{putPlaces};
 ghost use Rattle.channel.specs.Kinds.{patternOf};
 ghost use Rattle.channel.specs.Control.{controlPlaces};
 ghost use Rattle.dbits.specs.Plan.{Made};
-ghost use Rattle.record.specs.Record.{dLength};
+ghost use Rattle.channel.specs.Record.{dLength};
 ghost use Rattle.record.specs.Built.{fixedOctets, extendedPlaces, withParity, withC5, withXc6, withParities, octetsBy};
 use channel::Kind;
 use frame::places;

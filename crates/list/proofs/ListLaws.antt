@@ -8,27 +8,29 @@ use lib.ListN.{length, take, drop, getD, length-append}
 use lib.Seq.{take-all}
 use Rattle.reading.specs.Reading.{Cursor, Item, overAll, Stretch, Reading}
 use Rattle.reading.proofs.ReadingLaws.{over-append, stretch-join}
+use Rattle.channel.specs.Verdict.{Context}
 use Rattle.channel.specs.Frames.{Frame, rules, beginning}
 use Rattle.channel.proofs.ChannelLaws.{unique}
-use Rattle.bellrope.specs.declared.Answer.{Answer}
-use Rattle.bellrope.specs.Paging.{cursorAt}
+use Rattle.call.specs.declared.CursorNumbers.{CursorNumbers}
+use Rattle.call.specs.declared.Answer.{Answer}
+use Rattle.call.specs.Call.{cursorBy, next}
 use Rattle.list.specs.Line.{refusalLine, linesOf, Put, Records, AllLined}
 use Rattle.list.specs.Listing.{numberOf, wholeOf, TextBy, Text, Listing, Listed}
 use Rattle.list.proofs.TextLaws.{put-none, put-put, put-one}
 use Rattle.list.proofs.RoomLaws.{lines-append, lines-short, all-fit}
-use Rattle.list.proofs.PagingLaws.{pageNumber, number-due, PageTaken}
+use Rattle.list.proofs.PagingLaws.{first, pageNumber, number-due, PageTaken}
 
 -- a listing under way: the cursor, and the lines of the items before it, which end at a place. Where the first page is refused there are none
-pub record Ongoing (capture : List ℕ) (direction position context : ℕ) (before out : List ℕ) (end : ℕ) : Type 0 where
+pub record Ongoing (capture : List ℕ) (direction : ℕ) (cursor : CursorNumbers) (before out : List ℕ) (end : ℕ) : Type 0 where
   pub done : List (Item Frame)
   pub stretch : Stretch rules (wholeOf capture direction) beginning done
-  pub moved : overAll rules beginning done ≡ cursorAt position context
+  pub moved : overAll rules beginning done ≡ cursorBy cursor
   pub put : Put before 0 (linesOf done) out end
-  pub same : pageNumber capture direction position context ≡ pageNumber capture direction 0 0
-  pub quiet : (pageNumber capture direction 0 0 ≡ 0 → ⊥) → done ≡ []
-  pub ahead : 0 < length capture → position < 8 * length capture
+  pub same : pageNumber capture direction cursor ≡ pageNumber capture direction first
+  pub quiet : (pageNumber capture direction first ≡ 0 → ⊥) → done ≡ []
+  pub ahead : 0 < length capture → cursor .position < 8 * length capture
 
-pub begins : (capture : List ℕ) (direction : ℕ) (out : List ℕ) → Ongoing capture direction 0 0 out out 0
+pub begins : (capture : List ℕ) (direction : ℕ) (out : List ℕ) → Ongoing capture direction first out out 0
 begins capture direction out =
     record {
       done = [];
@@ -41,7 +43,7 @@ begins capture direction out =
     }
 
 -- the text by its number
-module _ (capture : List ℕ) (direction number : ℕ) (due : number ≡ pageNumber capture direction 0 0) where
+module _ (capture : List ℕ) (direction number : ℕ) (due : number ≡ pageNumber capture direction first) where
   text-refused : (number ≡ 0 → ⊥) → Text capture direction (refusalLine number)
   text-refused z = subst (λ (k : ℕ). TextBy k capture direction (refusalLine number)) (due ∙ number-due capture direction) (go number z)
     where
@@ -52,16 +54,16 @@ module _ (capture : List ℕ) (direction number : ℕ) (due : number ≡ pageNum
   text-taken : number ≡ 0 → (xs : List (Item Frame)) → Reading rules (wholeOf capture direction) beginning xs → Text capture direction (linesOf xs)
   text-taken z xs r = subst (λ (k : ℕ). TextBy k capture direction (linesOf xs)) (sym z ∙ due ∙ number-due capture direction) (xs, r, refl)
 
-module _ (capture : List ℕ) (direction position context : ℕ) (before out : List ℕ) (end : ℕ) (now : Ongoing capture direction position context before out end) where
+module _ (capture : List ℕ) (direction : ℕ) (cursor : CursorNumbers) (before out : List ℕ) (end : ℕ) (now : Ongoing capture direction cursor before out end) where
   -- a refusal
-  pub refused-listing : (number : ℕ) (after : List ℕ) (behind : ℕ) → number ≡ pageNumber capture direction position context → (number ≡ 0 → ⊥)
+  pub refused-listing : (number : ℕ) (after : List ℕ) (behind : ℕ) → number ≡ pageNumber capture direction cursor → (number ≡ 0 → ⊥)
       → Put out 0 (refusalLine number) after behind → Listed (Text capture direction) before after behind
   refused-listing number after behind e z p =
-      let due : number ≡ pageNumber capture direction 0 0 = e ∙ now .same in
+      let due : number ≡ pageNumber capture direction first = e ∙ now .same in
       let untouched : out ≡ before = now .put .is ∙ ap (λ (d : List (Item Frame)). take 0 before ++ linesOf d ++ drop (0 + length (linesOf d)) before) (now .quiet (λ q. z (due ∙ q))) in
       record { text = refusalLine number; is = text-refused capture direction number due z; put = rw untouched at p }
 
-  module _ (a : Answer) (buffer : List ℕ) (page : PageTaken capture direction position context a buffer) where
+  module _ (a : Answer) (buffer : List ℕ) (page : PageTaken capture direction cursor a buffer) where
     -- the items so far, with those of the page
     items : List (Item Frame)
     items = now .done ++ page .items
@@ -72,9 +74,9 @@ module _ (capture : List ℕ) (direction position context : ℕ) (before out : L
         stretch-join rules (wholeOf capture direction) beginning (now .done) (page .items) (now .stretch)
         (rw (now .moved) (page .stretch))
 
-    moved : overAll rules beginning items ≡ cursorAt (a .position) (a .context)
+    moved : overAll rules beginning items ≡ cursorBy (next a)
     unfolding items
-    moved = over-append rules (wholeOf capture direction) beginning (now .done) (page .items) ∙ ap (λ (c : Cursor ℕ). overAll rules c (page .items)) (now .moved) ∙ page .moved
+    moved = over-append rules (wholeOf capture direction) beginning (now .done) (page .items) ∙ ap (λ (c : Cursor Context). overAll rules c (page .items)) (now .moved) ∙ page .moved
 
     -- there is room for their lines
     pub page-records : length capture ≤ 65538 → 524544 ≤ length out → Records (take (a .bytes) buffer) end (length out)
@@ -82,25 +84,25 @@ module _ (capture : List ℕ) (direction position context : ℕ) (before out : L
     page-records short long =
         record {
           items = page .items;
-          fit = all-fit (wholeOf capture direction) (omega arith) (cursorAt position context) (page .items) (page .stretch);
+          fit = all-fit (wholeOf capture direction) (omega arith) (cursorBy cursor) (page .items) (page .stretch);
           are = page .bytes;
           room =
               omega
-              (arith, now .put .ends, page .inside, ap (λ (c : Cursor ℕ). c .position) moved, ap length (lines-append (now .done) (page .items)), length-append (linesOf (now .done)) (linesOf (page .items)), lines-short (wholeOf capture direction) beginning items whole);
+              (arith, now .put .ends, page .inside, ap (λ (c : Cursor Context). c .position) moved, ap length (lines-append (now .done) (page .items)), length-append (linesOf (now .done)) (linesOf (page .items)), lines-short (wholeOf capture direction) beginning items whole);
         }
 
-    first-taken : pageNumber capture direction 0 0 ≡ 0
-    first-taken = sym (now .same) ∙ page .asked
+    first-taken : pageNumber capture direction first ≡ 0
+    first-taken = sym (now .same) ∙ page .good
 
     module _ (short : length capture ≤ 65538) (after : List ℕ) (behind : ℕ) (lined : AllLined (take (a .bytes) buffer) out end after behind) where
       put-all : Put before 0 (linesOf items) after behind
       unfolding items
       put-all =
           rw (lines-append (now .done) (page .items))
-          (put-put (now .put) (lined (page .items) (all-fit (wholeOf capture direction) (omega arith) (cursorAt position context) (page .items) (page .stretch)) (page .bytes)))
+          (put-put (now .put) (lined (page .items) (all-fit (wholeOf capture direction) (omega arith) (cursorBy cursor) (page .items) (page .stretch)) (page .bytes)))
 
       -- the next page is asked
-      pub goes-on : a .position < 8 * length capture → Ongoing capture direction (a .position) (a .context) before after behind
+      pub goes-on : a .position < 8 * length capture → Ongoing capture direction (next a) before after behind
       goes-on h =
           record {
             done = items;
@@ -117,7 +119,7 @@ module _ (capture : List ℕ) (direction position context : ℕ) (before out : L
       listed h =
           record {
             text = linesOf items;
-            is = text-taken capture direction 0 (sym first-taken) refl items (whole, omega (arith, page .inside, ap (λ (c : Cursor ℕ). c .position) moved));
+            is = text-taken capture direction 0 (sym first-taken) refl items (whole, omega (arith, page .inside, ap (λ (c : Cursor Context). c .position) moved));
             put = put-all;
           }
 

@@ -12,40 +12,53 @@ use lib.ListN.{length, take}
 use lib.Seq.{length-take-le}
 use Rattle.io.specs.Counts.{Counts}
 use Rattle.reading.specs.Reading.{Cursor, Item, overAll, Stretch, Reading}
+use Rattle.reading.specs.Paging.{Page, firstLeft}
+use Rattle.channel.specs.Verdict.{Context}
 use Rattle.channel.specs.Frames.{Capture, Frame, rules}
 use Rattle.channel.proofs.ChannelLaws.{exists}
-use Rattle.record.specs.Record.{recordOf, records}
+use Rattle.channel.specs.Record.{recordOf, records}
 use Rattle.record.proofs.RecordLaws.{record-length, size-le}
-use Rattle.bellrope.specs.declared.Answer.{Answer}
-use Rattle.bellrope.specs.Paging.{cursorAt, refusalOf, refused, Page, firstLeft, taken, PagedBy, PageCall}
-use Rattle.bellrope.proofs.CallLaws.{Admitted, admitted}
-use Rattle.bellrope.proofs.HarvestLaws.{Got, got, got-bytes, not-refused, stretch, progress, answered-good}
+use Rattle.call.specs.declared.CursorNumbers.{CursorNumbers}
+use Rattle.call.specs.declared.Answer.{Answer}
+use Rattle.call.specs.Call.{cursorBy, next, answeredBy, refused}
+use Rattle.paging.specs.declared.Request.{Request}
+use Rattle.paging.specs.Paging.{refusalOf, PagedBy, PageCall}
+use Rattle.paging.proofs.CallLaws.{Admitted, admitted}
+use Rattle.paging.proofs.HarvestLaws.{got, got-bytes, not-refused, stretch, progress, answered-good}
 use Rattle.list.specs.Listing.{numberOf, wholeOf}
 
+-- the cursor of the beginning
+abbrev pub first : CursorNumbers
+first = record { position = 0; context = 0 }
+
+-- what the listing asks of a page
+abbrev pub asked : List ℕ → ℕ → CursorNumbers → Request
+asked capture direction cursor = record { n = 8 * length capture; terms = record { direction = direction }; cursor = cursor; most = 4096 }
+
 -- the number that 1 to 3 give
-abbrev pub pageNumber : List ℕ → ℕ → ℕ → ℕ → ℕ
-pageNumber capture direction position context = refusalOf (length capture) (8 * length capture) direction position context 4096
+abbrev pub pageNumber : List ℕ → ℕ → CursorNumbers → ℕ
+pageNumber capture direction cursor = refusalOf (length capture) (asked capture direction cursor)
 
 -- at the beginning it is that of the listing
-pub number-due : (capture : List ℕ) (direction : ℕ) → pageNumber capture direction 0 0 ≡ numberOf capture direction
+pub number-due : (capture : List ℕ) (direction : ℕ) → pageNumber capture direction first ≡ numberOf capture direction
 number-due capture direction = rw (le-ltb (8 * length capture) (8 * length capture) (omega arith), le-ltb (8 * length capture) 0 (omega arith))
 
-module _ (capture : List ℕ) (direction position context : ℕ) (buffer : List ℕ) (a : Answer) (after : List ℕ)
-    (call : PageCall capture (8 * length capture) direction position context 4096 buffer a after) where
+module _ (capture : List ℕ) (direction : ℕ) (cursor : CursorNumbers) (buffer : List ℕ) (a : Answer) (after : List ℕ)
+    (call : PageCall capture (asked capture direction cursor) buffer a after) where
   abbrev n : ℕ
   n = 8 * length capture
 
   abbrev w : Capture
   w = wholeOf capture direction
 
-  abbrev c : Cursor ℕ
-  c = cursorAt position context
+  abbrev c : Cursor Context
+  c = cursorBy cursor
 
   -- a page that has room for the largest record is not refused with 4
-  pub number-is : 31 ≤ length buffer → a .number ≡ pageNumber capture direction position context
-  number-is room = by-number (pageNumber capture direction position context) refl call
+  pub number-is : 31 ≤ length buffer → a .number ≡ pageNumber capture direction cursor
+  number-is room = by-number (pageNumber capture direction cursor) refl call
     where
-      first-fits : Admitted (length capture) n direction position context 4096 → Page w c 4096 (length buffer) [] → position < n → ⊥
+      first-fits : Admitted (length capture) (asked capture direction cursor) → Page rules recordOf w c 4096 (length buffer) [] → cursor .position < n → ⊥
       first-fits h p l = go (r .0) (r .1)
         where
           r : (xs : List (Item Frame)) × Reading rules w c xs
@@ -57,46 +70,46 @@ module _ (capture : List ℕ) (direction position context : ℕ) (buffer : List 
               let long : length (records (x ∷ [])) ≤ 31 = omega (arith, ap length (append-nil (recordOf x)), record-length x, size-le x) in
               omega (arith, p .longest (x ∷ []) (xs, q) (h .some) (omega arith))
 
-      by-page : Admitted (length capture) n direction position context 4096 → (xs : List (Item Frame)) → Page w c 4096 (length buffer) xs
-          → a ≡ cond (firstLeft w c xs) (refused 4 position context) (taken c xs) → a .number ≡ 0
-      by-page h [] p e = by-test (ltb position n) refl e
+      by-page : Admitted (length capture) (asked capture direction cursor) → (xs : List (Item Frame)) → Page rules recordOf w c 4096 (length buffer) xs
+          → a ≡ cond (firstLeft rules recordOf w c xs) (refused 4 cursor) (answeredBy (length xs) (length (records xs)) (overAll rules c xs)) → a .number ≡ 0
+      by-page h [] p e = by-test (ltb (cursor .position) n) refl e
         where
-          by-test : (b : Bool) → ltb position n ≡ b → a ≡ cond b (refused 4 position context) (taken c []) → a .number ≡ 0
-          by-test true t e = absurd (first-fits h p (ltb-true position n t))
+          by-test : (b : Bool) → ltb (cursor .position) n ≡ b → a ≡ cond b (refused 4 cursor) (answeredBy 0 0 c) → a .number ≡ 0
+          by-test true t e = absurd (first-fits h p (ltb-true (cursor .position) n t))
           by-test false t e = ap (λ (b : Answer). b .number) e
       by-page h (x ∷ xs) p e = ap (λ (b : Answer). b .number) e
 
-      by-number : (number : ℕ) → pageNumber capture direction position context ≡ number → PagedBy number w c 4096 buffer a after → a .number ≡ number
-      by-number zero e (xs, p, t, q) = by-page (admitted (length capture) n direction position context 4096 0 (sym e) refl) xs p t
+      by-number : (number : ℕ) → pageNumber capture direction cursor ≡ number → PagedBy rules recordOf number w cursor 4096 buffer a after → a .number ≡ number
+      by-number zero e (xs, p, t, q) = by-page (admitted (length capture) (asked capture direction cursor) e) xs p t
       by-number (suc number) e (t, q) = ap (λ (b : Answer). b .number) t
 
 -- a page that is not refused
-pub record PageTaken (capture : List ℕ) (direction position context : ℕ) (a : Answer) (after : List ℕ) : Type 0 where
+pub record PageTaken (capture : List ℕ) (direction : ℕ) (cursor : CursorNumbers) (a : Answer) (after : List ℕ) : Type 0 where
   pub items : List (Item Frame)
-  pub stretch : Stretch rules (wholeOf capture direction) (cursorAt position context) items
-  pub moved : overAll rules (cursorAt position context) items ≡ cursorAt (a .position) (a .context)
+  pub stretch : Stretch rules (wholeOf capture direction) (cursorBy cursor) items
+  pub moved : overAll rules (cursorBy cursor) items ≡ cursorBy (next a)
   pub within : Counts (a .bytes) after
   pub bytes : take (a .bytes) after ≡ records items
-  pub asked : pageNumber capture direction position context ≡ 0
-  pub answered : pageNumber capture direction (a .position) (a .context) ≡ 0
+  pub good : pageNumber capture direction cursor ≡ 0
+  pub answered : pageNumber capture direction (next a) ≡ 0
   pub inside : a .position ≤ 8 * length capture
-  pub further : position < 8 * length capture → position < a .position
+  pub further : cursor .position < 8 * length capture → cursor .position < a .position
 
-pub page-taken : (capture : List ℕ) (direction position context : ℕ) (buffer : List ℕ) (a : Answer) (after : List ℕ) → PageCall capture (8 * length capture) direction position context 4096 buffer a after
-    → length after ≡ length buffer → a .number ≡ 0 → PageTaken capture direction position context a after
-page-taken capture direction position context buffer a after call e z =
-    let n : ℕ = 8 * length capture in
-    let g : Got (wholeOf capture direction) (cursorAt position context) 4096 buffer a after = got capture n direction position context 4096 buffer a after call z in
-    let good = answered-good capture n direction position context 4096 buffer a after call z 4096 (lit< tt) in
-    let h : a .bytes ≤ length after = omega (arith, ap (λ (b : Answer). b .bytes) (g .answered), g .longest .fits) in
+pub page-taken : (capture : List ℕ) (direction : ℕ) (cursor : CursorNumbers) (buffer : List ℕ) (a : Answer) (after : List ℕ) → PageCall capture (asked capture direction cursor) buffer a after
+    → length after ≡ length buffer → a .number ≡ 0 → PageTaken capture direction cursor a after
+page-taken capture direction cursor buffer a after call e z =
+    let r : Request = asked capture direction cursor in
+    let g = got capture r buffer a after call z .filled in
+    let good = answered-good capture r buffer a after call z 4096 (lit< tt) in
+    let h : a .bytes ≤ length after = omega (arith, g .sized, g .longest .fits) in
     record {
       items = g .page;
-      stretch = stretch capture n direction position context 4096 buffer a after call z;
-      moved = sym (ap (λ (b : Answer). cursorAt (b .position) (b .context)) (g .answered));
+      stretch = stretch capture r buffer a after call z;
+      moved = sym (g .moved);
       within = (h, sym (length-take-le (a .bytes) after h));
-      bytes = got-bytes capture n direction position context 4096 buffer a after call z;
-      asked = not-refused capture n direction position context 4096 buffer a after call z;
+      bytes = got-bytes capture r buffer a after call z;
+      good = not-refused capture r buffer a after call z;
       answered = good;
-      inside = admitted (length capture) n direction (a .position) (a .context) 4096 0 (sym good) refl .inside;
-      further = λ l. progress capture n direction position context 4096 buffer a after call z l .1;
+      inside = admitted (length capture) (asked capture direction (next a)) good .inside;
+      further = λ l. progress capture r buffer a after call z l .1;
     }

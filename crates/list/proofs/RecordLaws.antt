@@ -12,7 +12,7 @@ use Rattle.channel.specs.declared.Kind.{Kind}
 use Rattle.channel.specs.declared.Kind.the-variants.{Speech, Data, Om, Configuration, NoSpeech, Lower, Amr670, Amr740}
 use Rattle.channel.specs.Kinds.{kindNo}
 use Rattle.channel.specs.Frames.{Frame}
-use Rattle.record.specs.Record.{numberAt, recordOf, records, sizeOf, dLength}
+use Rattle.channel.specs.Record.{numberAt, recordOf, records, sizeOf, dLength}
 use Rattle.record.proofs.RecordLaws.{four-bytes, record-length, size-pos}
 use Rattle.list.specs.Line.{spaced, lineOf, linesOf, Put, sizes, Fits, AllFit, Recorded, Lined, Records, AllLined}
 use Rattle.list.proofs.TextLaws.{put-none, put-put, put-one}

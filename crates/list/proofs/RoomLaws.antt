@@ -9,6 +9,7 @@ use native.Mathlib.Omega.{arith}
 use lib.ListN.{length, length-append}
 use Rattle.reading.specs.Reading.{Cursor, Item, gap, frame, Gap, Obeys, Starts, over, overAll, Stretch}
 use Rattle.channel.specs.Kinds.{kindNo}
+use Rattle.channel.specs.Verdict.{Context}
 use Rattle.channel.specs.Frames.{Capture, Frame, Due, rules}
 use Rattle.channel.proofs.FrameLaws.{body-low}
 use Rattle.list.specs.Line.{lineOf, linesOf, Fits, AllFit}
@@ -28,14 +29,14 @@ frame-line f = simp length-append (omega (arith, digits-most 20 (kindNo (f .kind
 
 module _ (w : Capture) where
   -- no gap stands behind a gap
-  lone : (c : Cursor ℕ) (s l t m : ℕ) → Gap rules w c s l → Gap rules w (over rules c (gap s l)) t m → ⊥
+  lone : (c : Cursor Context) (s l t m : ℕ) → Gap rules w c s l → Gap rules w (over rules c (gap s l)) t m → ⊥
   lone c s l t m g h = go (g .stops)
     where
       go : (s + l ≡ w .n) ⊎ ((f : Frame) × Starts rules w (s + l) f) → ⊥
       go (inl e) = omega (arith, h .from, h .filled, h .within)
       go (inr (f, d)) = h .none-follows f (subst (λ (k : ℕ). Due w 0 k f) (sym (h .from)) d)
 
-  pub lines-short : (c : Cursor ℕ) (xs : List (Item Frame)) → Stretch rules w c xs → c .position + length (linesOf xs) ≤ overAll rules c xs .position + 44
+  pub lines-short : (c : Cursor Context) (xs : List (Item Frame)) → Stretch rules w c xs → c .position + length (linesOf xs) ≤ overAll rules c xs .position + 44
   lines-short c [] s = omega arith
   lines-short c (frame f ∷ xs) (o, s) =
       omega (arith, o .stands .at, body-low (f .kind), frame-line f, length-append (lineOf (frame f)) (linesOf xs), lines-short (over rules c (frame f)) xs s)
@@ -47,10 +48,10 @@ module _ (w : Capture) where
 
 -- the items of a capture of fewer than 2^32 bits fit their records
 module _ (w : Capture) (short : w .n < 4294967296) where
-  fits : (c : Cursor ℕ) (x : Item Frame) → Obeys rules w c x → Fits x
+  fits : (c : Cursor Context) (x : Item Frame) → Obeys rules w c x → Fits x
   fits c (gap start span) o = (omega (arith, o .within), omega (arith, o .within))
   fits c (frame f) o = (omega (arith, o .stands .at, o .stands .before), omega (arith, o .stands .tail .within))
 
-  pub all-fit : (c : Cursor ℕ) (xs : List (Item Frame)) → Stretch rules w c xs → AllFit xs
+  pub all-fit : (c : Cursor Context) (xs : List (Item Frame)) → Stretch rules w c xs → AllFit xs
   all-fit c [] s = tt
   all-fit c (x ∷ xs) (o, s) = (fits c x o, all-fit (over rules c x) xs s)

@@ -10,7 +10,7 @@ use Rattle.io.specs.Counts.{Counts}
 use Rattle.reading.specs.Reading.{Item, gap, frame}
 use Rattle.channel.specs.Kinds.{kindNo}
 use Rattle.channel.specs.Frames.{Frame}
-use Rattle.record.specs.Record.{recordOf, records}
+use Rattle.channel.specs.Record.{recordOf, records}
 
 -- the decimal digits of a number, at most as many as the first argument says: no zeros in front, but for 0 itself
 unfoldable pub digitsOf : ℕ → ℕ → List ℕ

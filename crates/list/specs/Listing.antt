@@ -8,7 +8,7 @@ use lib.Dec.{ltb}
 use lib.ListN.{length}
 use Rattle.reading.specs.Reading.{Item, Reading}
 use Rattle.channel.specs.Frames.{Capture, captureOf, Frame, rules, beginning}
-use Rattle.bellrope.specs.Paging.{directionOf}
+use Rattle.call.specs.Call.{termsBy}
 use Rattle.list.specs.Line.{refusalLine, linesOf, Put}
 
 -- the number of the refusal, or 0: 1 for a direction above 1, else 2 for a capture over 65,536 bytes
@@ -17,7 +17,7 @@ numberOf capture direction = cond (ltb 1 direction) 1 (cond (ltb 65536 (length c
 
 -- the capture that is read: all bits of its bytes, n being eight times its length
 abbrev pub wholeOf : List ℕ → ℕ → Capture
-wholeOf capture direction = captureOf capture (8 * length capture) (directionOf direction)
+wholeOf capture direction = captureOf capture (8 * length capture) (termsBy (record { direction = direction }))
 
 -- by the number: one line for each item of the reading from the beginning, in order; on a refusal only its line
 abbrev pub TextBy : ℕ → List ℕ → ℕ → List ℕ → Type 0

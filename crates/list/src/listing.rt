@@ -5,6 +5,9 @@ ghost use lib.ListN.{length, getD};
 ghost use Rattle.list.specs.Listing.{Text, Listing, Listed};
 use crate::line;
 use crate::page;
+use call::CursorNumbers;
+use call::TermNumbers;
+use paging::Request;
 
 // Puts a line for each item of a capture, asking for each page with the cursor that the last answered, or the line of the refusal alone. Answers where the
 // text ends. The buffer has as many bytes as a capture may have bits, and 256 more: that is enough for every reading.
@@ -14,17 +17,22 @@ fn list(capture: &[u8], direction: u8, out: &mut [u8]) -> usize
 {
     let n = 8 * capture.len() as u64;
     let mut buffer = io::buffer();
-    let mut position: u64 = 0;
-    let mut context: u64 = 0;
+    let mut cursor = CursorNumbers {
+        position: 0,
+        context: 0,
+    };
     let mut end: usize = 0;
     loop {
-        let answer = bellrope::bellrope_page(
+        let answer = paging::page(
             capture,
-            n,
-            direction as u64,
-            position,
-            context,
-            4096,
+            Request {
+                n: n,
+                terms: TermNumbers {
+                    direction: direction as u64,
+                },
+                cursor: cursor,
+                most: 4096,
+            },
             &mut buffer,
         );
         if answer.number != 0 {
@@ -34,8 +42,7 @@ fn list(capture: &[u8], direction: u8, out: &mut [u8]) -> usize
         if n <= answer.position {
             return end;
         }
-        position = answer.position;
-        context = answer.context;
+        cursor = answer.next();
     }
 }
 

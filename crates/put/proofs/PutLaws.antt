@@ -16,7 +16,8 @@ use lib.Pow.{pow-pos, shr-shr, high, low, field, mod-mod-pow}
 use lib.Seq.{getD-set-same, getD-set-other}
 use Rattle.bits.specs.Bit.{bitAt, toN, count}
 use Rattle.bits.proofs.BitLaws.{toN-lt, toN-one}
-use Rattle.put.specs.Put.{putIn, putBit, putBits, putPlaces}
+use Rattle.put.specs.Put.{putPlaces}
+use Rattle.bits.specs.Put.{putIn, putBit, putBits}
 
 module _ (x k b : ℕ) (hb : b < 2) where
   high-part : putIn x k b / 2 ^ k ≡ x / 2 ^ k / 2 * 2 + b

@@ -19,7 +19,8 @@ use lib.Seq.{drop-cons, getD-set-same, getD-set-other, set-getD, set-set}
 use Rattle.bits.specs.Bit.{bitAt, toN, number, numberFrom, count, octetOf, bitsFrom}
 use Rattle.bits.proofs.BitLaws.{number-from, rebuilt, octet-whole, octet-bit, byte-bit}
 use Rattle.bits.proofs.CountLaws.{length-count, length-map-count, map-count-split, map-count-same}
-use Rattle.put.specs.Put.{putIn, putRun, Shows, RunAt, putBit, putBits, putPlaces}
+use Rattle.put.specs.Put.{putRun, Shows, RunAt, putPlaces}
+use Rattle.bits.specs.Put.{putIn, putBit, putBits}
 use Rattle.put.proofs.PutLaws.{puts-append, places-append, places-run}
 
 module _ (x a r v : ℕ) (b : Bool) (fits : a + suc r ≤ 8) where

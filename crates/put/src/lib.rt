@@ -6,7 +6,8 @@ ghost use Prim.Native.Nat.{ℕ, _+_, _*_, _-_, _/_, _%_, _^_, _<_, _≤_};
 ghost use lib.ListN.{length, getD, replicate};
 ghost use Rattle.bits.specs.Bit.{bitAt, count};
 ghost use Rattle.word.specs.Below.{Below};
-ghost use Rattle.put.specs.Put.{putRun, Shows, RunAt, putBit, putBits, putPlaces};
+ghost use Rattle.put.specs.Put.{putRun, Shows, RunAt, putPlaces};
+ghost use Rattle.bits.specs.Put.{putBit, putBits};
 
 // A byte with its c bits from bit a on made the first c of x; the mask has those c bits.
 fn run_in(y: u8, a: usize, c: usize, x: u8) -> u8
@@ -126,13 +127,13 @@ pub fn at_places(o: [u8; 20], places: &[u8], from: &[u8]) -> [u8; 20]
     requires { ⌜ Below 160 (now places) × (length (now places) ≤ 8 * length (now from)) ⌝ }
     ensures { λ r. ⌜ r ≡ putPlaces o (now (places .entry)) (bitAt (now (from .entry))) 0 ⌝ }
 {
-    let mut held = o;
+    let mut octets = o;
     let mut j: usize = 0;
     while j < places.len() {
         let p = places[j] as usize;
         let r = run_at(places, j);
-        put_top(&mut held, p, r, from_bit(from[j / 8], j % 8));
+        put_top(&mut octets, p, r, from_bit(from[j / 8], j % 8));
         j += r;
     }
-    held
+    octets
 }

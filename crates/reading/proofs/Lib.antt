@@ -1,2 +1,5 @@
 pub mod ItemLaws
 pub mod ReadingLaws
+pub mod PageLaws
+pub mod FillLaws
+pub mod HarvestLaws

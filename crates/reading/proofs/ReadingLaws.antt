@@ -1,13 +1,13 @@
 -- The laws of a reading: one at most, one at least; it splits and joins; pages of whatever sizes, joined, are it.
 -- Assumes nothing.
-use mathlib.Core.Path.{_≡_, refl, sym, _∙_, ap}
+use mathlib.Core.Path.{_≡_, refl, sym}
 use mathlib.Core.Bool.{Bool, true, false, cond}
 use mathlib.Core.List.{List, [], _∷_, _++_}
-use Prim.Native.Nat.{ℕ, zero, suc, _+_, _-_, _≤_, _<_}
+use Prim.Native.Nat.{ℕ, zero, suc, _+_, _-_, _≤_}
 use native.Mathlib.Omega.{arith}
 use lib.Dec.{ltb}
 use borrow.Author.Tests.{ltb-true, ltb-false}
-use Rattle.reading.specs.Reading.{Rules, Cursor, Item, Obeys, over, overAll, Stretch, Reading, Leading, Pages, joined, Sound}
+use Rattle.reading.specs.Reading.{Rules, Cursor, Item, Obeys, over, overAll, Stretch, Reading, Pages, joined, Sound}
 use Rattle.reading.proofs.ItemLaws.{one, later, within, next, found}
 
 module _ {W X F : Type 0} (R : Rules W X F) (w : W) where

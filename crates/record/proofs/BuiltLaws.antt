@@ -28,9 +28,8 @@ use Rattle.channel.specs.Coding.{Word, bitsAt, all, ones, odd, fixed, coded, xc
 use Rattle.channel.specs.Control.{fromTop, controlPlaces, control, extended}
 use Rattle.channel.proofs.BoolLaws.{ands, and-both, all-at, zero-at, one-at}
 use Rattle.channel.proofs.DLaws.{d-rule}
-use Rattle.dbits.specs.DBits.{dBytes}
+use Rattle.channel.specs.Record.{dBytes, dLength}
 use Rattle.dbits.proofs.DBitLaws.{d-length, fromTop-bit, dBytes-bit, places-below}
-use Rattle.record.specs.Record.{dLength}
 use Rattle.record.specs.Built.{fixedOctets, extendedPlaces, withParity, withC5, withXc6, withParities, octetsBy}
 
 -- what coding says of the bits that a record does not hold: parities, and XC1..XC5 of an O&M frame

@@ -15,12 +15,12 @@ use Rattle.channel.specs.declared.Kind.the-variants.{Speech, Data, Om, Configur
 use Rattle.channel.specs.Kinds.{kinds, kindNo, bodyOf}
 use Rattle.channel.specs.Coding.{Word, wordAt, isBody}
 use Rattle.channel.specs.Control.{control, extended}
-use Rattle.dbits.specs.DBits.{dBytes}
+use Rattle.channel.specs.Record.{dBytes, wide, numberAt, dLength, recordOf, records}
 use Rattle.reading.specs.Reading.{Cursor, Item, gap, frame, Obeys, over, Stretch}
 use Rattle.channel.specs.Verdict.{Context}
 use Rattle.channel.specs.Frames.{Capture, Frame, rules}
-use Rattle.record.specs.Record.{wide, numberAt, dLength, recordOf, records}
-use Rattle.record.specs.Fit.{FitFrame, Fit, AllFit}
+use Rattle.record.specs.Fit.{Fit, AllFit}
+use Rattle.channel.specs.Sound.{FitFrame}
 use Rattle.record.proofs.BuiltLaws.{framed, body-framed, built}
 use Rattle.record.proofs.RecordLaws.{four-bytes, record-length, size-pos, d-length-le, length-dBytes}
 

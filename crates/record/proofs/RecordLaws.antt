@@ -20,12 +20,11 @@ use Rattle.channel.specs.Places.{dPlaces}
 use Rattle.channel.specs.Control.{fromTop, control, extended}
 use Rattle.channel.specs.Frames.{Frame}
 use Rattle.channel.proofs.CutLaws.{control-cut, extended-cut, d-cut}
-use Rattle.dbits.specs.DBits.{dBytes}
+use Rattle.channel.specs.Record.{dBytes, wide, dLength, sizeOf, recordOf}
 use Rattle.item.specs.declared.ItemKind.{ItemKind}
 use Rattle.item.specs.declared.ItemKind.the-variants as of
 use Rattle.item.specs.declared.Item.{Item}
 use Rattle.item.specs.Item.{frameOf, itemBy, itemOf}
-use Rattle.record.specs.Record.{wide, dLength, sizeOf, recordOf}
 use Rattle.record.specs.Size.{sizeBy}
 
 -- the D bits of a kind take 19 bytes at most

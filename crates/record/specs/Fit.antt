@@ -1,21 +1,11 @@
 -- The items that records can tell apart: what a reading or writing has (document 01, "Records and calls").
 -- Assumes nothing.
-use mathlib.Core.Path.{_≡_}
-use mathlib.Core.Bool.{true}
 use mathlib.Core.List.{List, [], _∷_}
 use Prim.Native.Nat.{_<_}
 use Rattle.reading.specs.Reading.{Item, gap, frame}
 use Rattle.channel.specs.declared.Terms.{Terms}
-use Rattle.channel.specs.Kinds.{bodyOf}
-use Rattle.channel.specs.Coding.{wordAt, isBody}
 use Rattle.channel.specs.Frames.{Frame}
-
--- a frame that terms allow: its body is no longer than its kind has it, fixed bits and coding hold, start and tail fit four bytes
-pub record FitFrame (t : Terms) (f : Frame) : Type 0 where
-  pub cut : f .body ≡ wordAt (f .body) 0 (bodyOf (f .kind))
-  pub holds : isBody (t .direction) (f .body) (f .kind) ≡ true
-  pub start-fits : f .start < 4294967296
-  pub tail-fits : f .tail < 4294967296
+use Rattle.channel.specs.Sound.{FitFrame}
 
 -- an item that terms allow; start and length of a gap fit four bytes
 abbrev pub Fit : Terms → Item Frame → Type 0

@@ -3,7 +3,7 @@
 use Prim.Native.Nat.{ℕ, _+_}
 use Rattle.item.specs.declared.ItemKind.{ItemKind}
 use Rattle.item.specs.declared.ItemKind.the-variants as of
-use Rattle.record.specs.Record.{dLength}
+use Rattle.channel.specs.Record.{dLength}
 
 -- how many bytes the record of a frame of a kind has, or that of a gap
 abbrev pub sizeBy : ItemKind → ℕ

@@ -9,11 +9,10 @@ ghost use Prim.Native.Nat.{_+_, _*_, _≤_};
 ghost use lib.ListN.{length, take, drop};
 ghost use Rattle.bits.specs.Bit.{bitAt};
 ghost use Rattle.channel.specs.Control.{control, extended};
-ghost use Rattle.dbits.specs.DBits.{dBytes};
+ghost use Rattle.channel.specs.Record.{dBytes, wide, numberAt, dLength, sizeOf, recordOf};
 ghost use Rattle.channel.specs.declared.Kind.{Kind};
 ghost use Rattle.dbits.specs.Plan.{Made, Plans};
 ghost use Rattle.item.specs.Item.{itemOf};
-ghost use Rattle.record.specs.Record.{wide, numberAt, dLength, sizeOf, recordOf};
 ghost use Rattle.record.specs.Size.{sizeBy};
 
 // How many bytes the D bits of a kind take.

@@ -12,7 +12,7 @@ use Rattle.bits.specs.Bit.{numberFrom, number, count}
 use Rattle.bits.proofs.BitLaws.{number-append, number-from, number-lt}
 use Rattle.bits.proofs.CountLaws.{length-map-count, map-count-split}
 use Rattle.channel.specs.Coding.{Word}
-use Rattle.word.specs.Words.{held}
+use Rattle.word.specs.Words.{fieldAt}
 
 -- a one moved up by k
 pub shl-one : (k : ℕ) → k < 64 → 1 * 2 ^ k % 2 ^ 64 ≡ 2 ^ k
@@ -42,6 +42,6 @@ module _ (g : Word) (n q p c k : ℕ) (e : p + (c + k) ≡ n) where
       ap (λ (m : ℕ). m / 2 ^ k) (parts ∙ behind) ∙ high (numberFrom first field) k (rw (length-map-count g k (q + p + c)) at (number-lt rest))
       ∙ number-from field first ∙ ap (λ (m : ℕ). first * 2 ^ m + number field) (length-map-count g c (q + p))
 
-  pub held-field : held g n q / 2 ^ k % 2 ^ c ≡ number (map g (count c (q + p)))
-  unfolding held
-  held-field = rw upper (low first c (rw (length-map-count g c (q + p)) at (number-lt field)))
+  pub field-in : fieldAt g n q / 2 ^ k % 2 ^ c ≡ number (map g (count c (q + p)))
+  unfolding fieldAt
+  field-in = rw upper (low first c (rw (length-map-count g c (q + p)) at (number-lt field)))

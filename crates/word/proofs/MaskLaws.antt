@@ -1,4 +1,4 @@
--- Bits held in a number, 64 at once: what a mask leaves of them, when two such numbers are the same, and the parity of their ones.
+-- Bits as a number, 64 at once: what a mask leaves of them, when two such numbers are the same, and the parity of their ones.
 -- Assumes nothing.
 use mathlib.Core.Path.{_≡_, refl, sym, _∙_, ap, ap₂}
 use mathlib.Core.Logic.{by-cases}
@@ -18,7 +18,7 @@ use lib.ListN.{getD}
 use Rattle.channel.specs.Places.{elem}
 use Rattle.channel.proofs.BoolLaws.{all-at, and-l, and-r, and-both}
 use Rattle.channel.proofs.DLaws.{elem-count}
-use Rattle.word.specs.Words.{held, fourAt, Holds, FixedBy}
+use Rattle.word.specs.Words.{fieldAt, fourAt, Holds, FixedBy}
 
 -- a number and a bit behind it
 half : (a : ℕ) (x : Bool) → (2 * a + toN x) / 2 ≡ a
@@ -83,8 +83,8 @@ all-windows : (t : ℕ → Bool) → all t (count 64 0) && (all t (count 64 64) 
 all-windows t = sym (all-append t (count 64 0) (count 64 64 ++ count 32 128) ∙ ap (λ (b : Bool). all t (count 64 0) && b) (all-append t (count 64 64) (count 32 128)))
 
 -- k of the bits under a mask
-mask-same : (g m v : Word) (k p : ℕ) → eqb (bitAnd (held g k p) (held m k p)) (held v k p) ≡ all (λ i. Bool·beq (g i && m i) (v i)) (count k p)
-unfolding held
+mask-same : (g m v : Word) (k p : ℕ) → eqb (bitAnd (fieldAt g k p) (fieldAt m k p)) (fieldAt v k p) ≡ all (λ i. Bool·beq (g i && m i) (v i)) (count k p)
+unfolding fieldAt
 mask-same g m v k p = ap (λ (n : ℕ). eqb n (number (map v (count k p)))) (masked (count k p) g m) ∙ same-bits (count k p) (λ i. g i && m i) v
 
 -- ---- fixed bits
@@ -219,7 +219,7 @@ module _ (s : List ℕ) (fits : (k : ℕ) → getD s k 0 < 256) where
 
   -- what the code puts together
   holds-octets : (a b c : ℕ) → a ≡ fromBytes 0 0 8 → b ≡ fromBytes 0 8 8 → c ≡ fromBytes 0 16 4 → Holds (bitAt s) a b c
-  unfolding held
+  unfolding fieldAt
   holds-octets a b c p q r = record { first = p ∙ sym (bytes-push 8 0 0); second = q ∙ sym (bytes-push 8 8 0); third = r ∙ sym (bytes-push 4 16 0) }
 
   -- by fours

@@ -1,4 +1,4 @@
--- A turn of each loop over a list of places: what is left of the list, from what is held so far. A packed field: its ones, and the byte that it tops.
+-- A turn of each loop over a list of places: what is left of the list, from what there is so far. A packed field: its ones, and the byte that it tops.
 -- Assumes nothing.
 use mathlib.Core.Path.{_≡_, sym, _∙_}
 use mathlib.Core.Bool.{Bool, true, false}

@@ -1,4 +1,4 @@
--- A frame's 160 bits held in three numbers, and the fixed bits of a pattern as octets.
+-- A frame's 160 bits as three numbers, and the fixed bits of a pattern as octets.
 -- Assumes nothing.
 use mathlib.Core.Path.{_≡_}
 use mathlib.Core.Bool.{true, not, Bool·beq}
@@ -11,8 +11,8 @@ use Rattle.channel.specs.Places.{elem}
 use Rattle.channel.specs.Coding.{Word, bitsAt, all, ones}
 
 -- k bits from place p on as a number, the first on top
-unfoldable pub held : Word → ℕ → ℕ → ℕ
-held g k p = number (bitsAt g (count k p))
+unfoldable pub fieldAt : Word → ℕ → ℕ → ℕ
+fieldAt g k p = number (bitsAt g (count k p))
 
 -- four bytes from byte i on as a number, the first on top
 abbrev pub fourAt : List ℕ → ℕ → ℕ
@@ -20,9 +20,9 @@ fourAt s i = ((getD s i 0 * 256 + getD s (i + 1) 0) * 256 + getD s (i + 2) 0) * 
 
 -- octets 1 to 8, 9 to 16 and 17 to 20 of a word
 pub record Holds (g : Word) (a b c : ℕ) : Type 0 where
-  pub first : a ≡ held g 64 0
-  pub second : b ≡ held g 64 64
-  pub third : c ≡ held g 32 128
+  pub first : a ≡ fieldAt g 64 0
+  pub second : b ≡ fieldAt g 64 64
+  pub third : c ≡ fieldAt g 32 128
 
 -- the fixed bits of a pattern as octets: which bits are fixed, and the fixed ones
 pub record FixedBy (zeros ones mask fixed : List ℕ) : Type 0 where

@@ -10,7 +10,7 @@ ghost use Rattle.bits.specs.Bit.{bitAt, toN, number, count};
 ghost use Rattle.channel.specs.Coding.{Word, bitsAt, all};
 ghost use Rattle.channel.specs.Control.{fromTop};
 ghost use Rattle.word.specs.Below.{Below};
-ghost use Rattle.word.specs.Words.{held, fourAt, Holds, FixedBy};
+ghost use Rattle.word.specs.Words.{fieldAt, fourAt, Holds, FixedBy};
 
 // The bit at entry j of the places. The octets are lent here: by value they would be copied for each bit.
 fn bit_at(o: &[u8], places: &[u8], j: usize) -> bool
@@ -135,7 +135,7 @@ fn both(a: bool, b: bool) -> bool
 // The c bits from place p on of a frame's first word, as a number.
 pub fn field_of(a: u64, p: usize, c: usize) -> u32
     requires { ⌜ (0 < c) × (c ≤ 8) × (p + c ≤ 64) ⌝ }
-    ensures { λ r. ⌜ (r < 2 ^ c) × ((g : Word) → a ≡ held g 64 0 → r ≡ number (bitsAt g (count c p))) ⌝ }
+    ensures { λ r. ⌜ (r < 2 ^ c) × ((g : Word) → a ≡ fieldAt g 64 0 → r ≡ number (bitsAt g (count c p))) ⌝ }
 {
     ((a >> (64 - p - c)) % (1 << c)) as u32
 }

@@ -8,7 +8,7 @@ use lib.ListN.{length, drop}
 use Rattle.bits.specs.Bit.{bitAt, count}
 use Rattle.channel.specs.Coding.{bitsAt}
 use Rattle.channel.specs.Control.{fromTop}
-use Rattle.dbits.specs.DBits.{dBytes}
+use Rattle.channel.specs.Record.{dBytes}
 use Rattle.dbits.proofs.DBitLaws.{part-end, part-is, places-below, d-length, d-count-le, all-length}
 use Rattle.dbits.proofs.PlanLaws.{kind-le}
 use borrow.Author.Needs.{needs}

@@ -6,7 +6,7 @@ use Prim.Native.Nat.{ℕ}
 use native.Mathlib.Omega.{arith}
 use lib.ListN.{length, getD, List·getD-append}
 use Rattle.item.specs.Item.{itemOf}
-use Rattle.record.specs.Record.{sizeOf, recordOf}
+use Rattle.channel.specs.Record.{sizeOf, recordOf}
 use Rattle.record.proofs.RecordLaws.{size-of, size-le, record-length}
 use Rattle.judge.specs.Judged.{SameTo}
 use Rattle.judge.proofs.SoundLaws.{same-front}

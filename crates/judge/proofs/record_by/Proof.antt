@@ -3,7 +3,7 @@
 use Prim.Native.Nat.{_+_, _≤_}
 use native.Mathlib.Omega.{arith}
 use lib.ListN.{length}
-use Rattle.record.specs.Record.{dLength}
+use Rattle.channel.specs.Record.{dLength}
 use mathlib.Core.Path.{refl, sym, _∙_}
 use Rattle.dbits.proofs.PlanLaws.{made-of}
 use Rattle.judge.proofs.SoundLaws.{record-frame, record-short, record-unknown, plan-for, plan-none}

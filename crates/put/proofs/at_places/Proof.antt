@@ -14,11 +14,11 @@ use Rattle.put.proofs.at_places.Statement.{statement}
 use Rattle.put.proofs.at_places.Tie as tie
 
 abbrev Inv-loop : tie.InvT-loop
-Inv-loop places from held₀ j₀ held j =
-    (j ≤ length places) × (length held ≡ length held₀) × (putPlaces held (drop j places) (bitAt from) j ≡ putPlaces held₀ places (bitAt from) 0)
+Inv-loop places from octets₀ j₀ octets j =
+    (j ≤ length places) × (length octets ≡ length octets₀) × (putPlaces octets (drop j places) (bitAt from) j ≡ putPlaces octets₀ places (bitAt from) 0)
 
 abbrev μ-loop : tie.MeasureT-loop
-μ-loop places from held₀ j₀ held j = length places - j
+μ-loop places from octets₀ j₀ octets j = length places - j
 
 loop-holds : tie.Need-loop-holds Inv-loop μ-loop
 loop-holds c = (omega arith, refl, refl)
@@ -45,7 +45,7 @@ put-top-requires : tie.Need-put-top-requires Inv-loop μ-loop
 put-top-requires c κs =
     let l = c .before .before .before .before .before .before .loop in
     let r = c .before .before .before .run-at in
-    let h : length (l .held) ≡ 20 = search needs in
+    let h : length (l .octets) ≡ 20 = search needs in
     let below = c .before .before .before .before .before .before .before .before .before .pre .0 (l .j) (omega arith) in
     (r .ensures .octet, omega (arith, r .ensures .octet))
 
@@ -63,14 +63,14 @@ loop-again c =
     let q = c .before .put-top in (
       r .ensures .within,
       q .kept .0 ∙ l .inv .1,
-      run-turn (l .held) (q .last .0) (a .places .now) (a .from .now) (l .j) (r .result) (r .ensures) (q .ensures (bitAt (getD (a .from .now) (l .j / 8) 0 ∷ [])) (l .j % 8) (c .before .before .from-bit .ensures)) ∙ l .inv .2,
+      run-turn (l .octets) (q .last .0) (a .places .now) (a .from .now) (l .j) (r .result) (r .ensures) (q .ensures (bitAt (getD (a .from .now) (l .j / 8) 0 ∷ [])) (l .j % 8) (c .before .before .from-bit .ensures)) ∙ l .inv .2,
     )
 
 returns : tie.Need-returns Inv-loop μ-loop
 returns c =
     let a = c .before .before .before .before .args in
     let l = c .before .loop in
-    sym (places-end (l .held) (a .places .now) (bitAt (a .from .now)) (l .j) (omega arith)) ∙ l .inv .2
+    sym (places-end (l .octets) (a .places .now) (bitAt (a .from .now)) (l .j) (omega arith)) ∙ l .inv .2
 
 pub at-places-spec : {M : Type 1} → statement M
 at-places-spec =

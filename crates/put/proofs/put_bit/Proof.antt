@@ -1,7 +1,7 @@
 -- `put::put_bit` meets its contract: a run of one bit.
 -- Assumes nothing.
 use borrow.Author.Needs.{needs}
-use Rattle.put.specs.Put.{putBits}
+use Rattle.bits.specs.Put.{putBits}
 use Rattle.put.proofs.put_bit.Statement.{statement}
 use Rattle.put.proofs.put_bit.Tie as tie
 

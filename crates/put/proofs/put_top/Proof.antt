@@ -2,7 +2,7 @@
 -- Assumes nothing.
 use native.Mathlib.Omega.{arith}
 use borrow.Author.Needs.{needs}
-use Rattle.put.specs.Put.{putBits}
+use Rattle.bits.specs.Put.{putBits}
 use Rattle.put.proofs.RunPutLaws.{top-put}
 use Rattle.put.proofs.put_top.Statement.{statement}
 use Rattle.put.proofs.put_top.Tie as tie

@@ -6,7 +6,7 @@ use Prim.Native.Nat.{ℕ, _+_, _*_, _-_, _/_, _%_, _<_, _≤_}
 use native.Mathlib.Omega.{arith}
 use borrow.Author.Needs.{needs}
 use lib.ListN.{length, getD, length-set}
-use Rattle.put.specs.Put.{putBits}
+use Rattle.bits.specs.Put.{putBits}
 use Rattle.put.proofs.RunPutLaws.{left, turn-whole, runs-all, set-bytes, ones-show, ones-are}
 use Rattle.put.proofs.tail.Statement.{statement}
 use Rattle.put.proofs.tail.Tie as tie

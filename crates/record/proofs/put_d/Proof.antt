@@ -5,7 +5,7 @@ use native.Mathlib.Omega.{arith}
 use Prim.Native.Nat.{_-_, _≤_}
 use lib.ListN.{length, length-set}
 use lib.Seq.{paste, paste-zero}
-use Rattle.record.specs.Record.{dLength}
+use Rattle.channel.specs.Record.{dLength}
 use Rattle.record.proofs.RecordLaws.{d-length-le, copy-turn}
 use borrow.Author.Needs.{needs}
 use Rattle.record.proofs.put_d.Statement.{statement}

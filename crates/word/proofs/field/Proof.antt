@@ -1,4 +1,4 @@
--- `word::field` meets its contract: the number of all the bits is that of those that are left, behind the field held.
+-- `word::field` meets its contract: the number of all the bits is that of those that are left, behind the field so far.
 -- Assumes nothing.
 use mathlib.Core.Path.{_≡_, refl, sym, _∙_}
 use Prim.Native.Nat.{_-_, _^_, _≤_, _<_}

@@ -4,7 +4,7 @@ use Prim.Native.Nat.{ℕ, _-_, _%_, _^_, _≤_, _<_}
 use native.Mathlib.Nat.{mod-lt, zero-add}
 use native.Mathlib.Omega.{arith}
 use lib.Pow.{pow-pos, pow-mono}
-use Rattle.word.proofs.FieldLaws.{shl-one, held-field}
+use Rattle.word.proofs.FieldLaws.{shl-one, field-in}
 use borrow.Author.Needs.{needs}
 use Rattle.word.proofs.field_of.Statement.{statement}
 use Rattle.word.proofs.field_of.Tie as tie
@@ -35,7 +35,7 @@ returns : tie.Need-returns
 returns c =
     let a = c .args in
     rw (shl-one (a .c) (omega arith))
-    (mod-lt _ (pow-pos (a .c)), λ g h. rw h (rw (zero-add (a .p)) at (held-field g 64 0 (a .p) (a .c) (64 - a .p - a .c) (omega arith))))
+    (mod-lt _ (pow-pos (a .c)), λ g h. rw h (rw (zero-add (a .p)) at (field-in g 64 0 (a .p) (a .c) (64 - a .p - a .c) (omega arith))))
 
 pub field-of-spec : {M : Type 1} → statement M
 field-of-spec =

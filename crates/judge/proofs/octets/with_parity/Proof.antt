@@ -4,7 +4,7 @@ use mathlib.Core.Path.{_∙_, ap}
 use mathlib.Core.Bool.{Bool, not}
 use Rattle.bits.specs.Bit.{bitAt}
 use Rattle.channel.specs.Coding.{bitsAt}
-use Rattle.put.specs.Put.{putBit}
+use Rattle.bits.specs.Put.{putBit}
 use Rattle.word.proofs.WordLaws.{odd-packed}
 use Rattle.record.specs.Built.{withParity}
 use borrow.Author.Needs.{needs}

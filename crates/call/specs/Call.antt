@@ -1,0 +1,41 @@
+-- What a call brings as numbers, and what it answers (document 01, "Records and calls").
+-- Assumes nothing.
+use mathlib.Core.Bool.{cond}
+use Prim.Native.Nat.{ℕ}
+use lib.Dec.{eqb}
+use Rattle.reading.specs.Reading.{Cursor}
+use Rattle.channel.specs.declared.Direction.{Direction}
+use Rattle.channel.specs.declared.Direction.the-variants.{Uplink, Downlink}
+use Rattle.channel.specs.declared.Terms.{Terms}
+use Rattle.channel.specs.Verdict.{Context}
+use Rattle.call.specs.declared.TermNumbers.{TermNumbers}
+use Rattle.call.specs.declared.CursorNumbers.{CursorNumbers}
+use Rattle.call.specs.declared.Answer.{Answer}
+
+-- direction: 0 uplink, 1 downlink
+abbrev pub directionOf : ℕ → Direction
+directionOf d = cond (eqb d 0) Uplink Downlink
+
+-- what is agreed of a capture, by its numbers
+abbrev pub termsBy : TermNumbers → Terms
+termsBy t = record { direction = directionOf (t .direction) }
+
+-- a cursor by its numbers
+abbrev pub cursorBy : CursorNumbers → Cursor Context
+cursorBy c = record { position = c .position; context = c .context }
+
+-- the numbers of the cursor that is answered
+abbrev pub next : Answer → CursorNumbers
+next a = record { position = a .position; context = a .context }
+
+-- a call that is not refused: number 0 and index 0, items and bytes, and the cursor moved on
+abbrev pub answeredBy : ℕ → ℕ → Cursor Context → Answer
+answeredBy items bytes c = record { number = 0; index = 0; items = items; bytes = bytes; position = c .position; context = c .context }
+
+-- a refusal: its number, the index of the record refused, 0 items, 0 bytes, and the cursor as given
+abbrev pub refusedAt : ℕ → ℕ → CursorNumbers → Answer
+refusedAt number index c = record { number = number; index = index; items = 0; bytes = 0; position = c .position; context = c .context }
+
+-- a refusal that is of no record: index 0
+abbrev pub refused : ℕ → CursorNumbers → Answer
+refused number c = refusedAt number 0 c

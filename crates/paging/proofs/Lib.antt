@@ -1,0 +1,5 @@
+pub mod CallLaws
+pub mod PagedLaws
+pub mod HarvestLaws
+pub mod UnseenLaws
+pub mod ItemLaws

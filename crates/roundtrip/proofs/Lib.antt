@@ -1,0 +1,4 @@
+pub mod ShownLaws
+pub mod RoundLaws
+pub mod OwnLaws
+pub mod PageWriteLaws

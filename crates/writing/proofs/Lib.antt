@@ -1,0 +1,3 @@
+pub mod TakeLaws
+pub mod WriteLaws
+pub mod JudgeLaws
