@@ -2,4 +2,5 @@
 -- Assumes nothing.
 pub mod RecordLaws
 pub mod OneLaws
+pub mod KindLaws
 pub mod BuiltLaws

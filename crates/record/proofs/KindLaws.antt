@@ -1,0 +1,41 @@
+-- What definitions say of the eight kinds, by the number of the kind, as the code asks it.
+-- Assumes nothing.
+use mathlib.Core.Path.{_≡_, refl}
+use mathlib.Core.Bool.{cond}
+use mathlib.Core.List.{List, _++_}
+use Prim.Native.Nat.{ℕ}
+use lib.Dec.{eqb, leb}
+use lib.ListN.{take}
+use Rattle.channel.specs.declared.Pattern.the-variants.{Hr, Low, P670}
+use Rattle.channel.specs.declared.Kind.{Kind}
+use Rattle.channel.specs.declared.Kind.the-variants.{Speech, Data, Om, Configuration, NoSpeech, Lower, Amr670, Amr740}
+use Rattle.channel.specs.Kinds.{kindNo}
+use Rattle.channel.specs.Places.{cPlaces, xcPlaces, crcPlaces, c6Places}
+use Rattle.channel.specs.Coding.{Word, bitsAt}
+use Rattle.channel.specs.Control.{fromTop, controlPlaces, extended}
+
+-- what holds of each of the eight kinds holds of any
+pub of-each : (P : Kind → Type 0) → P Speech → P Data → P Om → P Configuration → P NoSpeech → P Lower → P Amr670 → P Amr740 → (k : Kind) → P k
+of-each P a b c d e f g h Speech = a
+of-each P a b c d e f g h Data = b
+of-each P a b c d e f g h Om = c
+of-each P a b c d e f g h Configuration = d
+of-each P a b c d e f g h NoSpeech = e
+of-each P a b c d e f g h Lower = f
+of-each P a b c d e f g h Amr670 = g
+of-each P a b c d e f g h Amr740 = h
+
+-- extended: kind 1 its list of places, kind 3 the byte 248, others 0
+abbrev extendedNo : Word → ℕ → ℕ
+extendedNo g n = cond (eqb n 1) (fromTop (bitsAt g (take 5 xcPlaces ++ crcPlaces))) (cond (eqb n 3) 248 0)
+
+pub extended-no : (g : Word) (k : Kind) → extended g k ≡ extendedNo g (kindNo k)
+unfolding extended
+extended-no g = of-each (λ k. extended g k ≡ extendedNo g (kindNo k)) refl refl refl refl refl refl refl refl
+
+-- the places of control: kind 1; kinds 2 to 4; kinds 5, 6; kinds 7, 8
+abbrev controlNo : ℕ → List ℕ
+controlNo n = cond (eqb n 1) (take 4 (cPlaces Hr) ++ c6Places) (cond (leb n 4) (take 4 (cPlaces Hr)) (cond (leb n 6) (cPlaces Low) (cPlaces P670)))
+
+pub control-no : (k : Kind) → controlPlaces k ≡ controlNo (kindNo k)
+control-no = of-each (λ k. controlPlaces k ≡ controlNo (kindNo k)) refl refl refl refl refl refl refl refl
