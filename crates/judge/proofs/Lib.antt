@@ -2,3 +2,4 @@
 -- Assumes nothing.
 pub mod SoundLaws
 pub mod NumberLaws
+pub mod KindLaws

@@ -17,15 +17,15 @@ use frame::places;
 fn fixed(k: Kind) -> [u8; 20]
     ensures { λ r. ⌜ r ≡ fixedOctets (patternOf k) ⌝ }
 {
-    match k {
-        Kind::Speech => places::HR_FIXED,
-        Kind::Data => places::HR_FIXED,
-        Kind::Om => places::HR_FIXED,
-        Kind::Configuration => places::HR_FIXED,
-        Kind::NoSpeech => places::LOW_FIXED,
-        Kind::Lower => places::LOW_FIXED,
-        Kind::Amr670 => places::P670_FIXED,
-        Kind::Amr740 => places::P740_FIXED,
+    let n = kinds::number(k);
+    if n <= 4 {
+        places::HR_FIXED
+    } else if n <= 6 {
+        places::LOW_FIXED
+    } else if n == 7 {
+        places::P670_FIXED
+    } else {
+        places::P740_FIXED
     }
 }
 
@@ -34,15 +34,15 @@ fn with_control(o: [u8; 20], k: Kind, control: &[u8]) -> [u8; 20]
     requires { ⌜ 1 ≤ length (now control) ⌝ }
     ensures { λ r. ⌜ r ≡ putPlaces o (controlPlaces k) (bitAt (now (control .entry))) 0 ⌝ }
 {
-    match k {
-        Kind::Speech => put::at_places(o, &places::SPEECH_CONTROL, control),
-        Kind::Data => put::at_places(o, &places::HR_CONTROL, control),
-        Kind::Om => put::at_places(o, &places::HR_CONTROL, control),
-        Kind::Configuration => put::at_places(o, &places::HR_CONTROL, control),
-        Kind::NoSpeech => put::at_places(o, &places::LOW_C, control),
-        Kind::Lower => put::at_places(o, &places::LOW_C, control),
-        Kind::Amr670 => put::at_places(o, &places::AMR_C, control),
-        Kind::Amr740 => put::at_places(o, &places::AMR_C, control),
+    let n = kinds::number(k);
+    if n == 1 {
+        put::at_places(o, &places::SPEECH_CONTROL, control)
+    } else if n <= 4 {
+        put::at_places(o, &places::HR_CONTROL, control)
+    } else if n <= 6 {
+        put::at_places(o, &places::LOW_C, control)
+    } else {
+        put::at_places(o, &places::AMR_C, control)
     }
 }
 
@@ -51,15 +51,10 @@ fn with_extended(o: [u8; 20], k: Kind, extended: &[u8]) -> [u8; 20]
     requires { ⌜ 1 ≤ length (now extended) ⌝ }
     ensures { λ r. ⌜ r ≡ putPlaces o (extendedPlaces k) (bitAt (now (extended .entry))) 0 ⌝ }
 {
-    match k {
-        Kind::Speech => put::at_places(o, &places::SPEECH_EXTENDED, extended),
-        Kind::Data => o,
-        Kind::Om => put::at_places(o, &places::XC1_TO_5, extended),
-        Kind::Configuration => o,
-        Kind::NoSpeech => o,
-        Kind::Lower => o,
-        Kind::Amr670 => o,
-        Kind::Amr740 => o,
+    match kinds::number(k) {
+        1 => put::at_places(o, &places::SPEECH_EXTENDED, extended),
+        3 => put::at_places(o, &places::XC1_TO_5, extended),
+        _ => o,
     }
 }
 
@@ -92,15 +87,10 @@ fn with_xc6(o: [u8; 20]) -> [u8; 20]
 fn with_parities(o: [u8; 20], k: Kind) -> [u8; 20]
     ensures { λ r. ⌜ r ≡ withParities k o ⌝ }
 {
-    match k {
-        Kind::Speech => with_xc6(with_c5(o)),
-        Kind::Data => with_c5(o),
-        Kind::Om => with_xc6(with_c5(o)),
-        Kind::Configuration => with_c5(o),
-        Kind::NoSpeech => o,
-        Kind::Lower => o,
-        Kind::Amr670 => o,
-        Kind::Amr740 => o,
+    match kinds::number(k) {
+        1 | 3 => with_xc6(with_c5(o)),
+        2 | 4 => with_c5(o),
+        _ => o,
     }
 }
 

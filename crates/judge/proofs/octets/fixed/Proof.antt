@@ -1,84 +1,41 @@
--- `judge::octets::fixed` meets its contract: each array is what the fixed ones of the pattern make.
+-- `judge::octets::fixed` meets its contract: each array is what the fixed ones of the pattern make, by the number of the kind.
 -- Assumes nothing.
 use Rattle.bits.specs.Bit.{twenty, octetOf}
 use Rattle.record.specs.Built.{fixedOctets}
+use Rattle.judge.proofs.KindLaws.{pattern-no}
 use borrow.Author.Needs.{needs}
+use borrow.Author.Tests.{ne-eqb, le-leb, lt-leb}
 use Rattle.judge.proofs.octets.fixed.Statement.{statement}
 use Rattle.judge.proofs.octets.fixed.Tie as tie
 
-enum-told : tie.Need-enum-told
-enum-told c = search needs
-
-enum-told-2 : tie.Need-enum-told-2
-enum-told-2 c = search needs
-
-enum-told-3 : tie.Need-enum-told-3
-enum-told-3 c = search needs
-
-enum-told-4 : tie.Need-enum-told-4
-enum-told-4 c = search needs
-
-enum-told-5 : tie.Need-enum-told-5
-enum-told-5 c = search needs
-
-enum-told-6 : tie.Need-enum-told-6
-enum-told-6 c = search needs
-
-enum-told-7 : tie.Need-enum-told-7
-enum-told-7 c = search needs
-
-enum-told-8 : tie.Need-enum-told-8
-enum-told-8 c = search needs
+number-requires : tie.Need-number-requires
+number-requires c κs = search needs
 
 returns : tie.Need-returns
 unfolding fixedOctets twenty octetOf
-returns c = rw (c .enum-told .given .1)
+returns c =
+    let m = c .before in
+    rw (pattern-no (m .before .args .k), ← m .number .ensures, le-leb (m .number .result) 4 (c .if1 .taken))
 
 returns-2 : tie.Need-returns-2
 unfolding fixedOctets twenty octetOf
-returns-2 c = rw (c .enum-told2 .given .1)
+returns-2 c =
+    let m = c .before .before in
+    let n = m .number .result in
+    rw (pattern-no (m .before .args .k), ← m .number .ensures, lt-leb n 4 (c .before .if1 .left), le-leb n 6 (c .if2 .taken))
 
 returns-3 : tie.Need-returns-3
 unfolding fixedOctets twenty octetOf
-returns-3 c = rw (c .enum-told3 .given .1)
+returns-3 c =
+    let m = c .before .before .before in
+    rw (pattern-no (m .before .args .k), ← m .number .ensures, c .if3 .taken)
 
 returns-4 : tie.Need-returns-4
 unfolding fixedOctets twenty octetOf
-returns-4 c = rw (c .enum-told4 .given .1)
-
-returns-5 : tie.Need-returns-5
-unfolding fixedOctets twenty octetOf
-returns-5 c = rw (c .enum-told5 .given .1)
-
-returns-6 : tie.Need-returns-6
-unfolding fixedOctets twenty octetOf
-returns-6 c = rw (c .enum-told6 .given .1)
-
-returns-7 : tie.Need-returns-7
-unfolding fixedOctets twenty octetOf
-returns-7 c = rw (c .enum-told7 .given .1)
-
-returns-8 : tie.Need-returns-8
-unfolding fixedOctets twenty octetOf
-returns-8 c = rw (c .enum-told8 .given .1)
+returns-4 c =
+    let m = c .before .before .before in
+    let n = m .number .result in
+    rw (pattern-no (m .before .args .k), ← m .number .ensures, lt-leb n 4 (c .before .before .if1 .left), lt-leb n 6 (c .before .if2 .left), ne-eqb n 7 (c .if3 .left))
 
 pub fixed-spec : {M : Type 1} → statement M
-fixed-spec =
-    tie.close
-    (tie.spec
-    enum-told
-    enum-told-2
-    enum-told-3
-    enum-told-4
-    enum-told-5
-    enum-told-6
-    enum-told-7
-    enum-told-8
-    returns
-    returns-2
-    returns-3
-    returns-4
-    returns-5
-    returns-6
-    returns-7
-    returns-8)
+fixed-spec = tie.close (tie.spec number-requires returns returns-2 returns-3 returns-4)
