@@ -34,15 +34,15 @@ fn with_control(o: [u8; 20], k: Kind, control: &[u8]) -> [u8; 20]
     requires { ⌜ 1 ≤ length (now control) ⌝ }
     ensures { λ r. ⌜ r ≡ putPlaces o (controlPlaces k) (bitAt (now (control .entry))) 0 ⌝ }
 {
-    let n = kinds::number(k);
-    if n == 1 {
-        put::at_places(o, &places::SPEECH_CONTROL, control)
-    } else if n <= 4 {
-        put::at_places(o, &places::HR_CONTROL, control)
-    } else if n <= 6 {
-        put::at_places(o, &places::LOW_C, control)
-    } else {
-        put::at_places(o, &places::AMR_C, control)
+    match k {
+        Kind::Speech => put::at_places(o, &places::SPEECH_CONTROL, control),
+        Kind::Data => put::at_places(o, &places::HR_CONTROL, control),
+        Kind::Om => put::at_places(o, &places::HR_CONTROL, control),
+        Kind::Configuration => put::at_places(o, &places::HR_CONTROL, control),
+        Kind::NoSpeech => put::at_places(o, &places::LOW_C, control),
+        Kind::Lower => put::at_places(o, &places::LOW_C, control),
+        Kind::Amr670 => put::at_places(o, &places::AMR_C, control),
+        Kind::Amr740 => put::at_places(o, &places::AMR_C, control),
     }
 }
 

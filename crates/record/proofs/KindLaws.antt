@@ -2,17 +2,16 @@
 -- Assumes nothing.
 use mathlib.Core.Path.{_≡_, refl}
 use mathlib.Core.Bool.{cond}
-use mathlib.Core.List.{List, _++_}
+use mathlib.Core.List.{_++_}
 use Prim.Native.Nat.{ℕ}
-use lib.Dec.{eqb, leb}
+use lib.Dec.{eqb}
 use lib.ListN.{take}
-use Rattle.channel.specs.declared.Pattern.the-variants.{Hr, Low, P670}
 use Rattle.channel.specs.declared.Kind.{Kind}
 use Rattle.channel.specs.declared.Kind.the-variants.{Speech, Data, Om, Configuration, NoSpeech, Lower, Amr670, Amr740}
 use Rattle.channel.specs.Kinds.{kindNo}
-use Rattle.channel.specs.Places.{cPlaces, xcPlaces, crcPlaces, c6Places}
+use Rattle.channel.specs.Places.{xcPlaces, crcPlaces}
 use Rattle.channel.specs.Coding.{Word, bitsAt}
-use Rattle.channel.specs.Control.{fromTop, controlPlaces, extended}
+use Rattle.channel.specs.Control.{fromTop, extended}
 
 -- what holds of each of the eight kinds holds of any
 pub of-each : (P : Kind → Type 0) → P Speech → P Data → P Om → P Configuration → P NoSpeech → P Lower → P Amr670 → P Amr740 → (k : Kind) → P k
@@ -32,10 +31,3 @@ extendedNo g n = cond (eqb n 1) (fromTop (bitsAt g (take 5 xcPlaces ++ crcPlaces
 pub extended-no : (g : Word) (k : Kind) → extended g k ≡ extendedNo g (kindNo k)
 unfolding extended
 extended-no g = of-each (λ k. extended g k ≡ extendedNo g (kindNo k)) refl refl refl refl refl refl refl refl
-
--- the places of control: kind 1; kinds 2 to 4; kinds 5, 6; kinds 7, 8
-abbrev controlNo : ℕ → List ℕ
-controlNo n = cond (eqb n 1) (take 4 (cPlaces Hr) ++ c6Places) (cond (leb n 4) (take 4 (cPlaces Hr)) (cond (leb n 6) (cPlaces Low) (cPlaces P670)))
-
-pub control-no : (k : Kind) → controlPlaces k ≡ controlNo (kindNo k)
-control-no = of-each (λ k. controlPlaces k ≡ controlNo (kindNo k)) refl refl refl refl refl refl refl refl

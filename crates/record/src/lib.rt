@@ -36,15 +36,15 @@ pub fn size(kind: ItemKind) -> usize
 fn control_byte(o: [u8; 20], k: Kind) -> u8
     ensures { λ r. ⌜ r ≡ control (bitAt o) k ⌝ }
 {
-    let n = kinds::number(k);
-    if n == 1 {
-        word::top_byte(o, &places::SPEECH_CONTROL)
-    } else if n <= 4 {
-        word::top_byte(o, &places::HR_CONTROL)
-    } else if n <= 6 {
-        word::top_byte(o, &places::LOW_C)
-    } else {
-        word::top_byte(o, &places::AMR_C)
+    match k {
+        Kind::Speech => word::top_byte(o, &places::SPEECH_CONTROL),
+        Kind::Data => word::top_byte(o, &places::HR_CONTROL),
+        Kind::Om => word::top_byte(o, &places::HR_CONTROL),
+        Kind::Configuration => word::top_byte(o, &places::HR_CONTROL),
+        Kind::NoSpeech => word::top_byte(o, &places::LOW_C),
+        Kind::Lower => word::top_byte(o, &places::LOW_C),
+        Kind::Amr670 => word::top_byte(o, &places::AMR_C),
+        Kind::Amr740 => word::top_byte(o, &places::AMR_C),
     }
 }
 

@@ -1,17 +1,15 @@
--- `record::control_byte` meets its contract: by the number of the kind.
+-- `record::control_byte` meets its contract: each list of places is that of the definition.
 -- Assumes nothing.
 use native.Mathlib.Omega.{arith}
-use Rattle.channel.specs.declared.Kind.the-variants.{Speech, Data, NoSpeech, Amr670}
+use Rattle.channel.specs.declared.Kind.the-variants.{Speech, Data, Om, Configuration, NoSpeech, Lower, Amr670, Amr740}
 use Rattle.channel.specs.Control.{controlPlaces, control}
 use Rattle.frame.proofs.CodingLaws.{listed-below}
-use Rattle.record.proofs.KindLaws.{control-no}
 use borrow.Author.Needs.{needs}
-use borrow.Author.Tests.{ne-eqb, le-leb, lt-leb}
 use Rattle.record.proofs.control_byte.Statement.{statement}
 use Rattle.record.proofs.control_byte.Tie as tie
 
-number-requires : tie.Need-number-requires
-number-requires c κs = search needs
+enum-told : tie.Need-enum-told
+enum-told c = search needs
 
 slice-aggregate-top-byte : tie.Need-slice-aggregate-top-byte
 slice-aggregate-top-byte c = search needs
@@ -19,65 +17,134 @@ slice-aggregate-top-byte c = search needs
 top-byte-requires : tie.Need-top-byte-requires
 top-byte-requires c κs = (listed-below 160 (controlPlaces Speech) tt, omega arith)
 
+enum-told-2 : tie.Need-enum-told-2
+enum-told-2 c = search needs
+
 slice-aggregate-top-byte-2 : tie.Need-slice-aggregate-top-byte-2
 slice-aggregate-top-byte-2 c = search needs
 
 top-byte-requires-2 : tie.Need-top-byte-requires-2
 top-byte-requires-2 c κs = (listed-below 160 (controlPlaces Data) tt, omega arith)
 
+enum-told-3 : tie.Need-enum-told-3
+enum-told-3 c = search needs
+
 slice-aggregate-top-byte-3 : tie.Need-slice-aggregate-top-byte-3
 slice-aggregate-top-byte-3 c = search needs
 
 top-byte-requires-3 : tie.Need-top-byte-requires-3
-top-byte-requires-3 c κs = (listed-below 160 (controlPlaces NoSpeech) tt, omega arith)
+top-byte-requires-3 c κs = (listed-below 160 (controlPlaces Om) tt, omega arith)
+
+enum-told-4 : tie.Need-enum-told-4
+enum-told-4 c = search needs
 
 slice-aggregate-top-byte-4 : tie.Need-slice-aggregate-top-byte-4
 slice-aggregate-top-byte-4 c = search needs
 
 top-byte-requires-4 : tie.Need-top-byte-requires-4
-top-byte-requires-4 c κs = (listed-below 160 (controlPlaces Amr670) tt, omega arith)
+top-byte-requires-4 c κs = (listed-below 160 (controlPlaces Configuration) tt, omega arith)
+
+enum-told-5 : tie.Need-enum-told-5
+enum-told-5 c = search needs
+
+slice-aggregate-top-byte-5 : tie.Need-slice-aggregate-top-byte-5
+slice-aggregate-top-byte-5 c = search needs
+
+top-byte-requires-5 : tie.Need-top-byte-requires-5
+top-byte-requires-5 c κs = (listed-below 160 (controlPlaces NoSpeech) tt, omega arith)
+
+enum-told-6 : tie.Need-enum-told-6
+enum-told-6 c = search needs
+
+slice-aggregate-top-byte-6 : tie.Need-slice-aggregate-top-byte-6
+slice-aggregate-top-byte-6 c = search needs
+
+top-byte-requires-6 : tie.Need-top-byte-requires-6
+top-byte-requires-6 c κs = (listed-below 160 (controlPlaces Lower) tt, omega arith)
+
+enum-told-7 : tie.Need-enum-told-7
+enum-told-7 c = search needs
+
+slice-aggregate-top-byte-7 : tie.Need-slice-aggregate-top-byte-7
+slice-aggregate-top-byte-7 c = search needs
+
+top-byte-requires-7 : tie.Need-top-byte-requires-7
+top-byte-requires-7 c κs = (listed-below 160 (controlPlaces Amr670) tt, omega arith)
+
+enum-told-8 : tie.Need-enum-told-8
+enum-told-8 c = search needs
+
+slice-aggregate-top-byte-8 : tie.Need-slice-aggregate-top-byte-8
+slice-aggregate-top-byte-8 c = search needs
+
+top-byte-requires-8 : tie.Need-top-byte-requires-8
+top-byte-requires-8 c κs = (listed-below 160 (controlPlaces Amr740) tt, omega arith)
 
 returns : tie.Need-returns
 unfolding control
-returns c =
-    let m = c .before .before .before in
-    rw (control-no (m .before .args .k), ← m .number .ensures, c .before .before .if1 .taken) (c .top-byte .ensures)
+returns c = rw (c .before .before .enum-told .given .1) (c .top-byte .ensures)
 
 returns-2 : tie.Need-returns-2
 unfolding control
-returns-2 c =
-    let m = c .before .before .before .before in
-    let n = m .number .result in
-    rw (control-no (m .before .args .k), ← m .number .ensures, ne-eqb n 1 (c .before .before .before .if1 .left), le-leb n 4 (c .before .before .if2 .taken)) (c .top-byte2 .ensures)
+returns-2 c = rw (c .before .before .enum-told2 .given .1) (c .top-byte2 .ensures)
 
 returns-3 : tie.Need-returns-3
 unfolding control
-returns-3 c =
-    let m = c .before .before .before .before .before in
-    let n = m .number .result in
-    rw (control-no (m .before .args .k), ← m .number .ensures, ne-eqb n 1 (c .before .before .before .before .if1 .left), lt-leb n 4 (c .before .before .before .if2 .left), le-leb n 6 (c .before .before .if3 .taken)) (c .top-byte3 .ensures)
+returns-3 c = rw (c .before .before .enum-told3 .given .1) (c .top-byte3 .ensures)
 
 returns-4 : tie.Need-returns-4
 unfolding control
-returns-4 c =
-    let m = c .before .before .before .before .before in
-    let n = m .number .result in
-    rw (control-no (m .before .args .k), ← m .number .ensures, ne-eqb n 1 (c .before .before .before .before .if1 .left), lt-leb n 4 (c .before .before .before .if2 .left), lt-leb n 6 (c .before .before .if3 .left)) (c .top-byte4 .ensures)
+returns-4 c = rw (c .before .before .enum-told4 .given .1) (c .top-byte4 .ensures)
+
+returns-5 : tie.Need-returns-5
+unfolding control
+returns-5 c = rw (c .before .before .enum-told5 .given .1) (c .top-byte5 .ensures)
+
+returns-6 : tie.Need-returns-6
+unfolding control
+returns-6 c = rw (c .before .before .enum-told6 .given .1) (c .top-byte6 .ensures)
+
+returns-7 : tie.Need-returns-7
+unfolding control
+returns-7 c = rw (c .before .before .enum-told7 .given .1) (c .top-byte7 .ensures)
+
+returns-8 : tie.Need-returns-8
+unfolding control
+returns-8 c = rw (c .before .before .enum-told8 .given .1) (c .top-byte8 .ensures)
 
 pub control-byte-spec : {M : Type 1} → statement M
 control-byte-spec =
     tie.close
     (tie.spec
-    number-requires
+    enum-told
     slice-aggregate-top-byte
     top-byte-requires
+    enum-told-2
     slice-aggregate-top-byte-2
     top-byte-requires-2
+    enum-told-3
     slice-aggregate-top-byte-3
     top-byte-requires-3
+    enum-told-4
     slice-aggregate-top-byte-4
     top-byte-requires-4
+    enum-told-5
+    slice-aggregate-top-byte-5
+    top-byte-requires-5
+    enum-told-6
+    slice-aggregate-top-byte-6
+    top-byte-requires-6
+    enum-told-7
+    slice-aggregate-top-byte-7
+    top-byte-requires-7
+    enum-told-8
+    slice-aggregate-top-byte-8
+    top-byte-requires-8
     returns
     returns-2
     returns-3
-    returns-4)
+    returns-4
+    returns-5
+    returns-6
+    returns-7
+    returns-8)

@@ -1,16 +1,14 @@
--- `judge::octets::with_control` meets its contract: by the number of the kind.
+-- `judge::octets::with_control` meets its contract: each list of places is that of the definition.
 -- Assumes nothing.
 use native.Mathlib.Omega.{arith}
-use Rattle.channel.specs.declared.Kind.the-variants.{Speech, Data, NoSpeech, Amr670}
+use Rattle.channel.specs.declared.Kind.the-variants.{Speech, Data, Om, Configuration, NoSpeech, Lower, Amr670, Amr740}
 use Rattle.record.proofs.BuiltLaws.{control-few, control-below}
-use Rattle.record.proofs.KindLaws.{control-no}
 use borrow.Author.Needs.{needs}
-use borrow.Author.Tests.{ne-eqb, le-leb, lt-leb}
 use Rattle.judge.proofs.octets.with_control.Statement.{statement}
 use Rattle.judge.proofs.octets.with_control.Tie as tie
 
-number-requires : tie.Need-number-requires
-number-requires c κs = search needs
+enum-told : tie.Need-enum-told
+enum-told c = search needs
 
 slice-aggregate-at-places : tie.Need-slice-aggregate-at-places
 slice-aggregate-at-places c = search needs
@@ -18,61 +16,126 @@ slice-aggregate-at-places c = search needs
 at-places-requires : tie.Need-at-places-requires
 at-places-requires c κs = (control-below Speech, omega (arith, c .before .before .before .before .pre, control-few Speech))
 
+enum-told-2 : tie.Need-enum-told-2
+enum-told-2 c = search needs
+
 slice-aggregate-at-places-2 : tie.Need-slice-aggregate-at-places-2
 slice-aggregate-at-places-2 c = search needs
 
 at-places-requires-2 : tie.Need-at-places-requires-2
-at-places-requires-2 c κs = (control-below Data, omega (arith, c .before .before .before .before .before .pre, control-few Data))
+at-places-requires-2 c κs = (control-below Data, omega (arith, c .before .before .before .before .pre, control-few Data))
+
+enum-told-3 : tie.Need-enum-told-3
+enum-told-3 c = search needs
 
 slice-aggregate-at-places-3 : tie.Need-slice-aggregate-at-places-3
 slice-aggregate-at-places-3 c = search needs
 
 at-places-requires-3 : tie.Need-at-places-requires-3
-at-places-requires-3 c κs = (control-below NoSpeech, omega (arith, c .before .before .before .before .before .before .pre, control-few NoSpeech))
+at-places-requires-3 c κs = (control-below Om, omega (arith, c .before .before .before .before .pre, control-few Om))
+
+enum-told-4 : tie.Need-enum-told-4
+enum-told-4 c = search needs
 
 slice-aggregate-at-places-4 : tie.Need-slice-aggregate-at-places-4
 slice-aggregate-at-places-4 c = search needs
 
 at-places-requires-4 : tie.Need-at-places-requires-4
-at-places-requires-4 c κs = (control-below Amr670, omega (arith, c .before .before .before .before .before .before .pre, control-few Amr670))
+at-places-requires-4 c κs = (control-below Configuration, omega (arith, c .before .before .before .before .pre, control-few Configuration))
+
+enum-told-5 : tie.Need-enum-told-5
+enum-told-5 c = search needs
+
+slice-aggregate-at-places-5 : tie.Need-slice-aggregate-at-places-5
+slice-aggregate-at-places-5 c = search needs
+
+at-places-requires-5 : tie.Need-at-places-requires-5
+at-places-requires-5 c κs = (control-below NoSpeech, omega (arith, c .before .before .before .before .pre, control-few NoSpeech))
+
+enum-told-6 : tie.Need-enum-told-6
+enum-told-6 c = search needs
+
+slice-aggregate-at-places-6 : tie.Need-slice-aggregate-at-places-6
+slice-aggregate-at-places-6 c = search needs
+
+at-places-requires-6 : tie.Need-at-places-requires-6
+at-places-requires-6 c κs = (control-below Lower, omega (arith, c .before .before .before .before .pre, control-few Lower))
+
+enum-told-7 : tie.Need-enum-told-7
+enum-told-7 c = search needs
+
+slice-aggregate-at-places-7 : tie.Need-slice-aggregate-at-places-7
+slice-aggregate-at-places-7 c = search needs
+
+at-places-requires-7 : tie.Need-at-places-requires-7
+at-places-requires-7 c κs = (control-below Amr670, omega (arith, c .before .before .before .before .pre, control-few Amr670))
+
+enum-told-8 : tie.Need-enum-told-8
+enum-told-8 c = search needs
+
+slice-aggregate-at-places-8 : tie.Need-slice-aggregate-at-places-8
+slice-aggregate-at-places-8 c = search needs
+
+at-places-requires-8 : tie.Need-at-places-requires-8
+at-places-requires-8 c κs = (control-below Amr740, omega (arith, c .before .before .before .before .pre, control-few Amr740))
 
 returns : tie.Need-returns
-returns c =
-    let m = c .before .before .before in
-    rw (control-no (m .before .before .args .k), ← m .number .ensures, c .before .before .if1 .taken) (c .at-places .ensures)
+returns c = rw (c .before .before .enum-told .given .1) (c .at-places .ensures)
 
 returns-2 : tie.Need-returns-2
-returns-2 c =
-    let m = c .before .before .before .before in
-    let n = m .number .result in
-    rw (control-no (m .before .before .args .k), ← m .number .ensures, ne-eqb n 1 (c .before .before .before .if1 .left), le-leb n 4 (c .before .before .if2 .taken)) (c .at-places2 .ensures)
+returns-2 c = rw (c .before .before .enum-told2 .given .1) (c .at-places2 .ensures)
 
 returns-3 : tie.Need-returns-3
-returns-3 c =
-    let m = c .before .before .before .before .before in
-    let n = m .number .result in
-    rw (control-no (m .before .before .args .k), ← m .number .ensures, ne-eqb n 1 (c .before .before .before .before .if1 .left), lt-leb n 4 (c .before .before .before .if2 .left), le-leb n 6 (c .before .before .if3 .taken)) (c .at-places3 .ensures)
+returns-3 c = rw (c .before .before .enum-told3 .given .1) (c .at-places3 .ensures)
 
 returns-4 : tie.Need-returns-4
-returns-4 c =
-    let m = c .before .before .before .before .before in
-    let n = m .number .result in
-    rw (control-no (m .before .before .args .k), ← m .number .ensures, ne-eqb n 1 (c .before .before .before .before .if1 .left), lt-leb n 4 (c .before .before .before .if2 .left), lt-leb n 6 (c .before .before .if3 .left)) (c .at-places4 .ensures)
+returns-4 c = rw (c .before .before .enum-told4 .given .1) (c .at-places4 .ensures)
+
+returns-5 : tie.Need-returns-5
+returns-5 c = rw (c .before .before .enum-told5 .given .1) (c .at-places5 .ensures)
+
+returns-6 : tie.Need-returns-6
+returns-6 c = rw (c .before .before .enum-told6 .given .1) (c .at-places6 .ensures)
+
+returns-7 : tie.Need-returns-7
+returns-7 c = rw (c .before .before .enum-told7 .given .1) (c .at-places7 .ensures)
+
+returns-8 : tie.Need-returns-8
+returns-8 c = rw (c .before .before .enum-told8 .given .1) (c .at-places8 .ensures)
 
 pub with-control-spec : {M : Type 1} → statement M
 with-control-spec =
     tie.close
     (tie.spec
-    number-requires
+    enum-told
     slice-aggregate-at-places
     at-places-requires
+    enum-told-2
     slice-aggregate-at-places-2
     at-places-requires-2
+    enum-told-3
     slice-aggregate-at-places-3
     at-places-requires-3
+    enum-told-4
     slice-aggregate-at-places-4
     at-places-requires-4
+    enum-told-5
+    slice-aggregate-at-places-5
+    at-places-requires-5
+    enum-told-6
+    slice-aggregate-at-places-6
+    at-places-requires-6
+    enum-told-7
+    slice-aggregate-at-places-7
+    at-places-requires-7
+    enum-told-8
+    slice-aggregate-at-places-8
+    at-places-requires-8
     returns
     returns-2
     returns-3
-    returns-4)
+    returns-4
+    returns-5
+    returns-6
+    returns-7
+    returns-8)
