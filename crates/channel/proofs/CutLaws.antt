@@ -50,16 +50,26 @@ lower-inside (suc (suc zero)) = refl
 lower-inside (suc (suc (suc zero))) = refl
 lower-inside (suc (suc (suc (suc m)))) = refl
 
--- the context that is left
+-- the context that is left, control and extended
+said-cut : (x : Context) (g : Word) (k : Kind) → (afterOf x (wordAt g 0 (bodyOf k)) k ≡ afterOf x g k) × (control (wordAt g 0 (bodyOf k)) k ≡ control g k) × (extended (wordAt g 0 (bodyOf k)) k ≡ extended g k)
+unfolding control extended
+said-cut x g Speech = (refl, refl, refl)
+said-cut x g Data = (refl, refl, refl)
+said-cut x g Om = (refl, refl, refl)
+said-cut x g Configuration = (refl, refl, refl)
+said-cut x g NoSpeech = (refl, refl, refl)
+said-cut x g Lower = (refl, refl, refl)
+said-cut x g Amr670 = (refl, refl, refl)
+said-cut x g Amr740 = (refl, refl, refl)
+
 pub after-cut : (x : Context) (g : Word) (k : Kind) → afterOf x (wordAt g 0 (bodyOf k)) k ≡ afterOf x g k
-after-cut x g Speech = refl
-after-cut x g Data = refl
-after-cut x g Om = refl
-after-cut x g Configuration = refl
-after-cut x g NoSpeech = refl
-after-cut x g Lower = refl
-after-cut x g Amr670 = refl
-after-cut x g Amr740 = refl
+after-cut x g k = said-cut x g k .0
+
+pub control-cut : (g : Word) (k : Kind) → control (wordAt g 0 (bodyOf k)) k ≡ control g k
+control-cut g k = said-cut 0 g k .1
+
+pub extended-cut : (g : Word) (k : Kind) → extended (wordAt g 0 (bodyOf k)) k ≡ extended g k
+extended-cut g k = said-cut 0 g k .2
 
 -- the verdict
 pub verdict-cut : (x : Context) (g : Word) (k : Kind) → verdictOf x (wordAt g 0 (bodyOf k)) k ≡ verdictOf x g k
@@ -72,29 +82,6 @@ verdict-cut x g NoSpeech = refl
 verdict-cut x g Lower = ap (λ (n : ℕ). 128 * toN (eqb (modeOf x g Lower) 0) + 16 * modeOf x g Lower + n) (wrongs-cut g 159 (checksLower (modeOf x g Lower)) (lower-inside (modeOf x g Lower)))
 verdict-cut x g Amr670 = ap (λ (n : ℕ). 128 * 0 + 16 * 0 + n) (wrongs-cut g 160 (checks 0 Amr670) refl)
 verdict-cut x g Amr740 = ap (λ (n : ℕ). 128 * 0 + 16 * 0 + n) (wrongs-cut g 160 (checks 0 Amr740) refl)
-
--- control and extended
-pub control-cut : (g : Word) (k : Kind) → control (wordAt g 0 (bodyOf k)) k ≡ control g k
-unfolding control
-control-cut g Speech = refl
-control-cut g Data = refl
-control-cut g Om = refl
-control-cut g Configuration = refl
-control-cut g NoSpeech = refl
-control-cut g Lower = refl
-control-cut g Amr670 = refl
-control-cut g Amr740 = refl
-
-pub extended-cut : (g : Word) (k : Kind) → extended (wordAt g 0 (bodyOf k)) k ≡ extended g k
-unfolding extended
-extended-cut g Speech = refl
-extended-cut g Data = refl
-extended-cut g Om = refl
-extended-cut g Configuration = refl
-extended-cut g NoSpeech = refl
-extended-cut g Lower = refl
-extended-cut g Amr670 = refl
-extended-cut g Amr740 = refl
 
 -- the bits at the D places
 pub d-cut : (g : Word) (k : Kind) → bitsAt (wordAt g 0 (bodyOf k)) (dPlaces k) ≡ bitsAt g (dPlaces k)
