@@ -11,23 +11,11 @@ use borrow.Author.Needs.{needs}
 use Rattle.dbits.proofs.entry_of.Statement.{statement}
 use Rattle.dbits.proofs.entry_of.Tie as tie
 
-shared-slice-read-p : tie.Need-shared-slice-read-p
-shared-slice-read-p c = search needs
-
 cast-p : tie.Need-cast-p
 cast-p c = omega (arith, c .shared-slice-known2 .given 0)
 
-sub-s : tie.Need-sub-s
-sub-s c = search needs
-
-no-entry-requires : tie.Need-no-entry-requires
-no-entry-requires c κs = search needs
-
 returns : tie.Need-returns
 returns c = c .no-entry .ensures _
-
-sub-second-run : tie.Need-sub-second-run
-sub-second-run c = search needs
 
 second-run-requires : tie.Need-second-run-requires
 second-run-requires c κs =
@@ -35,41 +23,17 @@ second-run-requires c κs =
     let r = c .before .before .before .before .pre in
     (r .1, r .2, r .3, omega (arith, r .0 0 (r .2)), omega arith, refl, λ i h. absurd (omega arith), first-none (a .part .now) _, λ h. absurd (omega arith))
 
-returns-2 : tie.Need-returns-2
-returns-2 c = search needs
-
-sub-if3 : tie.Need-sub-if3
-sub-if3 c = search needs
-
-shared-slice-read-if3 : tie.Need-shared-slice-read-if3
-shared-slice-read-if3 c = search needs
-
 cast-if3 : tie.Need-cast-if3
 cast-if3 c = omega (arith, c .shared-slice-known3 .given (8 - getD (c .before .before .before .before .args .part .now) 0 0 % 8 - 1))
 
 add-if3 : tie.Need-add-if3
 add-if3 c = omega (arith, c .shared-slice-known3 .given 0)
 
-sub-if3-2 : tie.Need-sub-if3-2
-sub-if3-2 c = search needs
-
-no-entry-requires-2 : tie.Need-no-entry-requires-2
-no-entry-requires-2 c κs = search needs
-
 returns-3 : tie.Need-returns-3
 returns-3 c = c .no-entry2 .ensures _
 
-no-entry-requires-3 : tie.Need-no-entry-requires-3
-no-entry-requires-3 c κs = search needs
-
 returns-4 : tie.Need-returns-4
 returns-4 c = c .no-entry3 .ensures _
-
-sub-weight : tie.Need-sub-weight
-sub-weight c = search needs
-
-weight-requires : tie.Need-weight-requires
-weight-requires c κs = search needs
 
 second-run-requires-2 : tie.Need-second-run-requires-2
 second-run-requires-2 c κs =
@@ -77,31 +41,28 @@ second-run-requires-2 c κs =
     let r = c .before .before .before .before .before .before .before .pre in
     (r .1, omega arith, r .3, omega arith, rw (c .weight .ensures) (pow-mono {j = 15} (omega arith)), rw (c .weight .ensures) (pow-whole _ (omega arith)), first-run (a .part .now) (8 - getD (a .part .now) 0 0 % 8) (r .1) (omega arith) (omega arith) (omega arith), first-whole (a .part .now) _ _ _ refl refl (c .weight .ensures), λ h. omega arith)
 
-returns-5 : tie.Need-returns-5
-returns-5 c = search needs
-
 pub entry-of-spec : {M : Type 1} → statement M
 entry-of-spec =
     tie.close
     (tie.spec
-    shared-slice-read-p
+    (λ c. search needs)
     cast-p
-    sub-s
-    no-entry-requires
+    (λ c. search needs)
+    (λ c κs. search needs)
     returns
-    sub-second-run
+    (λ c. search needs)
     second-run-requires
-    returns-2
-    sub-if3
-    shared-slice-read-if3
+    (λ c. search needs)
+    (λ c. search needs)
+    (λ c. search needs)
     cast-if3
     add-if3
-    sub-if3-2
-    no-entry-requires-2
+    (λ c. search needs)
+    (λ c κs. search needs)
     returns-3
-    no-entry-requires-3
+    (λ c κs. search needs)
     returns-4
-    sub-weight
-    weight-requires
+    (λ c. search needs)
+    (λ c κs. search needs)
     second-run-requires-2
-    returns-5)
+    (λ c. search needs))

@@ -10,29 +10,8 @@ use borrow.Author.Needs.{needs}
 use Rattle.dbits.proofs.part_bytes.Statement.{statement}
 use Rattle.dbits.proofs.part_bytes.Tie as tie
 
-add-n : tie.Need-add-n
-add-n c = search needs
-
-add-odd : tie.Need-add-odd
-add-odd c = search needs
-
-mul-odd : tie.Need-mul-odd
-mul-odd c = search needs
-
-shared-slice-read-odd : tie.Need-shared-slice-read-odd
-shared-slice-read-odd c = search needs
-
 cast-odd : tie.Need-cast-odd
 cast-odd c = omega (arith, c .shared-slice-known4 .given (c .before .before .before .before .args .base + 57))
-
-add-if1 : tie.Need-add-if1
-add-if1 c = search needs
-
-slow-bytes-requires : tie.Need-slow-bytes-requires
-slow-bytes-requires c κs = search needs
-
-returns : tie.Need-returns
-returns c = search needs
 
 quick-bytes-requires : tie.Need-quick-bytes-requires
 quick-bytes-requires c κs =
@@ -44,12 +23,6 @@ returns-2 c =
     let a = c .before .before .before .before .before .before .before .args in
     let r = c .before .before .before .before .before .before .before .pre in
     c .before .quick-bytes .ensures ∙ all-quick (a .part .now) (a .plan .now) (a .o .now) (a .base) ((length (a .part .now) + 7) / 8) (r .5) refl (r .2) (omega arith) (c .if2 .taken)
-
-byte-at-requires : tie.Need-byte-at-requires
-byte-at-requires c κs = search needs
-
-array-write-out : tie.Need-array-write-out
-array-write-out c = search needs
 
 returns-3 : tie.Need-returns-3
 returns-3 c =
@@ -63,16 +36,16 @@ pub part-bytes-spec : {M : Type 1} → statement M
 part-bytes-spec =
     tie.close
     (tie.spec
-    add-n
-    add-odd
-    mul-odd
-    shared-slice-read-odd
+    (λ c. search needs)
+    (λ c. search needs)
+    (λ c. search needs)
+    (λ c. search needs)
     cast-odd
-    add-if1
-    slow-bytes-requires
-    returns
+    (λ c. search needs)
+    (λ c κs. search needs)
+    (λ c. search needs)
     quick-bytes-requires
     returns-2
-    byte-at-requires
-    array-write-out
+    (λ c κs. search needs)
+    (λ c. search needs)
     returns-3)
