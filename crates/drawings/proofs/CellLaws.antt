@@ -14,19 +14,18 @@ use lib.Dec.{eqb, ltb}
 use lib.ListN.{length, getD, drop, drop-of-length-le, List·getD-eq-default}
 use lib.Seq.{drop-cons}
 use Rattle.bits.specs.Bit.{bitAt, count}
-use Rattle.channel.specs.declared.Pattern.{Pattern}
 use Rattle.channel.specs.declared.Pattern.the-variants.{Hr, Low, P670, P740}
 use Rattle.channel.specs.declared.Kind.{Kind}
 use Rattle.channel.specs.declared.Kind.the-variants.{Speech, Data, Om, Configuration, NoSpeech, Lower, Amr670, Amr740}
-use Rattle.channel.specs.Kinds.{kindNo, patternOf}
-use Rattle.channel.specs.Places.{elem, zerosOf, onesOf, cPlaces, dPlaces}
+use Rattle.channel.specs.Kinds.{kindNo, patternOf, bodyOf}
+use Rattle.channel.specs.Places.{elem}
 use Rattle.channel.proofs.BoolLaws.{all-at, never}
 use Rattle.channel.proofs.DLaws.{elem-count}
 use Rattle.word.specs.Words.{FixedBy}
 use Rattle.word.proofs.MaskLaws.{elem-append, within, mask-at, fixed-at}
 use Rattle.drawings.specs.declared.cell.Cell.{Cell}
-use Rattle.drawings.specs.declared.cell.Cell.the-variants.{Zero, One, C, D, Prime}
-use Rattle.drawings.specs.Cells.{indexOf, named, syncCell, xcCell, crcCell, besideCell, dName, tailCell, cellOf}
+use Rattle.drawings.specs.declared.cell.Cell.the-variants.{Zero, One, C, D, Prime, T, Tail, Nothing}
+use Rattle.drawings.specs.Cells.{indexOf, named, syncCell, xcCell, crcCell, besideCell, dName, tailName}
 
 -- an entry equal to p ends the search
 pub index-here : (p : ℕ) (l : List ℕ) (i : ℕ) → i < length l → getD l i 0 ≡ p → indexOf p (drop i l) ≡ 0
@@ -116,11 +115,16 @@ module _ (zeros ones mask fixed cs : List ℕ) (p : ℕ) (other : Cell) (by : Fi
       go true o q r = absurd (out (elem-append p zeros ones ∙ rw q))
       go false true q r = absurd (out (elem-append p zeros ones ∙ rw (q, r)))
 
--- what the parts of a kind's cells come to
-pub cell-is : (k : Kind) (p : ℕ) (t : Pattern) (tail d beside r : Cell) → patternOf k ≡ t → tail ≡ tailCell k p → d ≡ named (dPlaces k) (dName k) p tail
-    → beside ≡ besideCell k p d → r ≡ syncCell (zerosOf t) (onesOf t) (cPlaces t) p beside → r ≡ cellOf k p
-unfolding cellOf
-cell-is k p t tail d beside r of-kind behind among besides whole = whole ∙ rw (besides, among, behind, sym of-kind)
+-- what stands behind the body of a kind, by the length of the body: T1.. behind 158 bits, nothing behind 160, and behind 159 the T of a kind 6 or a one
+pub tail-by : (k : Kind) (i : ℕ) → tailName k i ≡ cond (eqb (bodyOf k) 158) (T (i + 1)) (cond (eqb (bodyOf k) 160) Nothing (cond (eqb (kindNo k) 6) Tail One))
+tail-by Speech i = refl
+tail-by Data i = refl
+tail-by Om i = refl
+tail-by Configuration i = refl
+tail-by NoSpeech i = refl
+tail-by Lower i = refl
+tail-by Amr670 i = refl
+tail-by Amr740 i = refl
 
 -- what a kind has besides, by its number: HR speech has XC, CRC and C6..C9, O&M has XC, any other has nothing
 pub beside-by : (k : Kind) (p : ℕ) (other : Cell) → besideCell k p other ≡ cond (eqb (kindNo k) 1) (xcCell p (crcCell p other)) (cond (eqb (kindNo k) 3) (xcCell p other) other)

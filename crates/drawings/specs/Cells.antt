@@ -70,6 +70,10 @@ tailName Amr740 i = Nothing
 abbrev pub tailCell : Kind → ℕ → Cell
 tailCell k p = cond (ltb p (bodyOf k)) Nothing (tailName k (p - bodyOf k))
 
+-- fixed bits and C bits by the pattern of a kind
+abbrev pub patternCell : Kind → ℕ → Cell → Cell
+patternCell k p other = syncCell (zerosOf (patternOf k)) (onesOf (patternOf k)) (cPlaces (patternOf k)) p other
+
 -- what the bit at place p of a frame of a kind is called
 unfoldable pub cellOf : Kind → ℕ → Cell
-cellOf k p = syncCell (zerosOf (patternOf k)) (onesOf (patternOf k)) (cPlaces (patternOf k)) p (besideCell k p (named (dPlaces k) (dName k) p (tailCell k p)))
+cellOf k p = patternCell k p (besideCell k p (named (dPlaces k) (dName k) p (tailCell k p)))

@@ -6,7 +6,7 @@ ghost use lib.ListN.{length};
 ghost use Rattle.bits.specs.Bit.{bitAt};
 ghost use Rattle.channel.specs.Places.{dPlaces};
 ghost use Rattle.word.specs.Words.{FixedBy};
-ghost use Rattle.drawings.specs.Cells.{indexOf, named, syncCell, xcCell, crcCell, besideCell, dName, tailCell, cellOf};
+ghost use Rattle.drawings.specs.Cells.{indexOf, named, syncCell, xcCell, crcCell, besideCell, dName, tailCell, patternCell, cellOf};
 use channel::Kind;
 use frame::places;
 
@@ -136,7 +136,7 @@ fn d_cell(k: Kind, p: u8, other: Cell) -> Cell
     other
 }
 
-// A bit behind the body of a kind, or nothing.
+// A bit behind the body of a kind, or nothing: T1.. behind 158 bits, none behind 160, and behind 159 the T of a kind 6 or the one of the other two.
 fn tail_cell(k: Kind, p: u8) -> Cell
     ensures { λ r. ⌜ r ≡ tailCell k p ⌝ }
 {
@@ -145,24 +145,22 @@ fn tail_cell(k: Kind, p: u8) -> Cell
     if place < body {
         return Cell::Nothing;
     }
-    let n = place - body + 1;
-    match k {
-        Kind::Speech => Cell::T(n),
-        Kind::Data => Cell::One,
-        Kind::Om => Cell::One,
-        Kind::Configuration => Cell::T(n),
-        Kind::NoSpeech => Cell::T(n),
-        Kind::Lower => Cell::Tail,
-        Kind::Amr670 => Cell::Nothing,
-        Kind::Amr740 => Cell::Nothing,
+    if body == 158 {
+        return Cell::T(place - body + 1);
     }
+    if body == 160 {
+        return Cell::Nothing;
+    }
+    if kinds::number(k) == 6 {
+        return Cell::Tail;
+    }
+    Cell::One
 }
 
-// What the bit at place p of a frame of a kind is called. Kinds 1 to 4 have the HR pattern, 5 and 6 the Low one, 7 and 8 their own.
-pub fn cell_at(k: Kind, p: u8) -> Cell
-    ensures { λ r. ⌜ r ≡ cellOf k p ⌝ }
+// A fixed bit or a C bit of a kind, or another cell. Kinds 1 to 4 have the HR pattern, 5 and 6 the Low one, 7 and 8 their own.
+fn pattern_cell(k: Kind, p: u8, other: Cell) -> Cell
+    ensures { λ r. ⌜ r ≡ patternCell k p other ⌝ }
 {
-    let other = beside_cell(k, p, d_cell(k, p, tail_cell(k, p)));
     let n = kinds::number(k);
     if n < 5 {
         return sync_cell(p, &places::HR_MASK, &places::HR_FIXED, &places::HR_C, other);
@@ -192,4 +190,11 @@ pub fn cell_at(k: Kind, p: u8) -> Cell
         &places::AMR_C,
         other,
     )
+}
+
+// What the bit at place p of a frame of a kind is called.
+pub fn cell_at(k: Kind, p: u8) -> Cell
+    ensures { λ r. ⌜ r ≡ cellOf k p ⌝ }
+{
+    pattern_cell(k, p, beside_cell(k, p, d_cell(k, p, tail_cell(k, p))))
 }

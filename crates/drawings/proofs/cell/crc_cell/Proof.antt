@@ -10,35 +10,11 @@ use Rattle.drawings.proofs.CellLaws.{named-in, named-out}
 use Rattle.drawings.proofs.cell.crc_cell.Statement.{statement}
 use Rattle.drawings.proofs.cell.crc_cell.Tie as tie
 
-sub-index-in : tie.Need-sub-index-in
-sub-index-in c = search needs
-
-part-index-in-start : tie.Need-part-index-in-start
-part-index-in-start c = search needs
-
-part-index-in-end : tie.Need-part-index-in-end
-part-index-in-end c = search needs
-
-index-in-requires : tie.Need-index-in-requires
-index-in-requires c κs = search needs
-
-sub-t14 : tie.Need-sub-t14
-sub-t14 c = search needs
-
 returns : tie.Need-returns
 returns c =
     let a = c .before .before .before .before .args in
     let i = c .before .index-in in
     sym (named-in crcPlaces (λ j. Crc (2 - j)) (a .p) (i .result) (named c6Places (λ j. C (j + 6)) (a .p) (a .other)) (i .ensures) (c .if1 .taken))
-
-slice-aggregate-index-in : tie.Need-slice-aggregate-index-in
-slice-aggregate-index-in c = search needs
-
-index-in-requires-2 : tie.Need-index-in-requires-2
-index-in-requires-2 c κs = search needs
-
-add-t17 : tie.Need-add-t17
-add-t17 c = search needs
 
 returns-2 : tie.Need-returns-2
 returns-2 c =
@@ -58,14 +34,14 @@ pub crc-cell-spec : {M : Type 1} → statement M
 crc-cell-spec =
     tie.close
     (tie.spec
-    sub-index-in
-    part-index-in-start
-    part-index-in-end
-    index-in-requires
-    sub-t14
+    (λ c. search needs)
+    (λ c. search needs)
+    (λ c. search needs)
+    (λ c κs. search needs)
+    (λ c. search needs)
     returns
-    slice-aggregate-index-in
-    index-in-requires-2
-    add-t17
+    (λ c. search needs)
+    (λ c κs. search needs)
+    (λ c. search needs)
     returns-2
     returns-3)

@@ -11,34 +11,13 @@ use Rattle.drawings.proofs.CellLaws.{named-in, named-out}
 use Rattle.drawings.proofs.cell.d_cell.Statement.{statement}
 use Rattle.drawings.proofs.cell.d_cell.Tie as tie
 
-table-requires : tie.Need-table-requires
-table-requires c κs = search needs
-
-d-from-requires : tie.Need-d-from-requires
-d-from-requires c κs = search needs
-
-d-count-requires : tie.Need-d-count-requires
-d-count-requires c κs = search needs
-
 add-to : tie.Need-add-to
 add-to c = omega (arith, part-end (c .before .before .before .args .k))
-
-sub-index-in : tie.Need-sub-index-in
-sub-index-in c = search needs
-
-part-index-in-start : tie.Need-part-index-in-start
-part-index-in-start c = search needs
 
 part-index-in-end : tie.Need-part-index-in-end
 part-index-in-end c =
     let l : length (c .before .before .before .table .result) ≡ 1022 = search needs in
     omega (arith, l, part-end (c .before .before .before .before .args .k))
-
-index-in-requires : tie.Need-index-in-requires
-index-in-requires c κs = search needs
-
-sub-if1 : tie.Need-sub-if1
-sub-if1 c = search needs
 
 d-name-requires : tie.Need-d-name-requires
 d-name-requires c κs = omega (arith, d-count-le (c .before .before .before .before .before .before .before .args .k))
@@ -69,15 +48,15 @@ pub d-cell-spec : {M : Type 1} → statement M
 d-cell-spec =
     tie.close
     (tie.spec
-    table-requires
-    d-from-requires
-    d-count-requires
+    (λ c κs. search needs)
+    (λ c κs. search needs)
+    (λ c κs. search needs)
     add-to
-    sub-index-in
-    part-index-in-start
+    (λ c. search needs)
+    (λ c. search needs)
     part-index-in-end
-    index-in-requires
-    sub-if1
+    (λ c κs. search needs)
+    (λ c. search needs)
     d-name-requires
     returns
     returns-2)

@@ -5,54 +5,6 @@ use borrow.Author.Needs.{needs}
 use Rattle.drawings.proofs.text.name.Statement.{statement}
 use Rattle.drawings.proofs.text.name.Tie as tie
 
-enum-told : tie.Need-enum-told
-enum-told c = search needs
-
-enum-told-2 : tie.Need-enum-told-2
-enum-told-2 c = search needs
-
-enum-known-c : tie.Need-enum-known-c
-enum-known-c c = search needs
-
-lettered-requires : tie.Need-lettered-requires
-lettered-requires c κs = search needs
-
-enum-known-c-2 : tie.Need-enum-known-c-2
-enum-known-c-2 c = search needs
-
-lettered-requires-2 : tie.Need-lettered-requires-2
-lettered-requires-2 c κs = search needs
-
-enum-known-c-3 : tie.Need-enum-known-c-3
-enum-known-c-3 c = search needs
-
-digit-requires : tie.Need-digit-requires
-digit-requires c κs = search needs
-
-enum-known-c-4 : tie.Need-enum-known-c-4
-enum-known-c-4 c = search needs
-
-lettered-requires-3 : tie.Need-lettered-requires-3
-lettered-requires-3 c κs = search needs
-
-enum-known-c-5 : tie.Need-enum-known-c-5
-enum-known-c-5 c = search needs
-
-lettered-requires-4 : tie.Need-lettered-requires-4
-lettered-requires-4 c κs = search needs
-
-enum-known-c-6 : tie.Need-enum-known-c-6
-enum-known-c-6 c = search needs
-
-lettered-requires-5 : tie.Need-lettered-requires-5
-lettered-requires-5 c κs = search needs
-
-enum-told-3 : tie.Need-enum-told-3
-enum-told-3 c = search needs
-
-enum-told-4 : tie.Need-enum-told-4
-enum-told-4 c = search needs
-
 returns : tie.Need-returns
 unfolding nameOf
 returns c = rw (c .enum-told .given .1)
@@ -97,22 +49,22 @@ pub name-spec : {M : Type 1} → statement M
 name-spec =
     tie.close
     (tie.spec
-    enum-told
-    enum-told-2
-    enum-known-c
-    lettered-requires
-    enum-known-c-2
-    lettered-requires-2
-    enum-known-c-3
-    digit-requires
-    enum-known-c-4
-    lettered-requires-3
-    enum-known-c-5
-    lettered-requires-4
-    enum-known-c-6
-    lettered-requires-5
-    enum-told-3
-    enum-told-4
+    (λ c. search needs)
+    (λ c. search needs)
+    (λ c. search needs)
+    (λ c κs. search needs)
+    (λ c. search needs)
+    (λ c κs. search needs)
+    (λ c. search needs)
+    (λ c κs. search needs)
+    (λ c. search needs)
+    (λ c κs. search needs)
+    (λ c. search needs)
+    (λ c κs. search needs)
+    (λ c. search needs)
+    (λ c κs. search needs)
+    (λ c. search needs)
+    (λ c. search needs)
     returns
     returns-2
     returns-3
