@@ -7,30 +7,6 @@ use borrow.Author.Needs.{needs}
 use Rattle.frame.proofs.coding.holds.Statement.{statement}
 use Rattle.frame.proofs.coding.holds.Tie as tie
 
-enum-told : tie.Need-enum-told
-enum-told c = search needs
-
-holds-by-requires : tie.Need-holds-by-requires
-holds-by-requires c κs = search needs
-
-enum-told-2 : tie.Need-enum-told-2
-enum-told-2 c = search needs
-
-holds-by-requires-2 : tie.Need-holds-by-requires-2
-holds-by-requires-2 c κs = search needs
-
-enum-told-3 : tie.Need-enum-told-3
-enum-told-3 c = search needs
-
-holds-by-requires-3 : tie.Need-holds-by-requires-3
-holds-by-requires-3 c κs = search needs
-
-enum-told-4 : tie.Need-enum-told-4
-enum-told-4 c = search needs
-
-holds-by-requires-4 : tie.Need-holds-by-requires-4
-holds-by-requires-4 c κs = search needs
-
 returns : tie.Need-returns
 returns c = λ o h.
     rw (c .before .before .before .enum-told .given .1) (c .holds-by .ensures o (zerosOf Hr) (onesOf Hr) h (record { mask-is = refl; fixed-is = refl; inside = refl; apart = refl }))
@@ -51,14 +27,14 @@ pub holds-spec : {M : Type 1} → statement M
 holds-spec =
     tie.close
     (tie.spec
-    enum-told
-    holds-by-requires
-    enum-told-2
-    holds-by-requires-2
-    enum-told-3
-    holds-by-requires-3
-    enum-told-4
-    holds-by-requires-4
+    (λ c. search needs)
+    (λ c κs. search needs)
+    (λ c. search needs)
+    (λ c κs. search needs)
+    (λ c. search needs)
+    (λ c κs. search needs)
+    (λ c. search needs)
+    (λ c κs. search needs)
     returns
     returns-2
     returns-3

@@ -11,23 +11,11 @@ use borrow.Author.Needs.{needs}
 use Rattle.frame.proofs.masks.four_wrongs.Statement.{statement}
 use Rattle.frame.proofs.masks.four_wrongs.Tie as tie
 
-ready-requires : tie.Need-ready-requires
-ready-requires c κs = search needs
-
-add-ready : tie.Need-add-ready
-add-ready c = search needs
-
 ready-requires-2 : tie.Need-ready-requires-2
 ready-requires-2 c κs = (omega (arith, c .before .before .before .before .before .before .pre .0), c .before .before .before .ready .ensures .kept)
 
-add-ready-2 : tie.Need-add-ready-2
-add-ready-2 c = search needs
-
 ready-requires-3 : tie.Need-ready-requires-3
 ready-requires-3 c κs = (omega (arith, c .before .before .before .before .before .before .before .before .before .before .pre .0), c .before .before .before .ready2 .ensures .kept)
-
-add-ready-3 : tie.Need-add-ready-3
-add-ready-3 c = search needs
 
 ready-requires-4 : tie.Need-ready-requires-4
 ready-requires-4 c κs = (omega (arith, c .before .before .before .before .before .before .before .before .before .before .before .before .before .before .pre .0), c .before .before .before .ready3 .ensures .kept)
@@ -42,9 +30,6 @@ wrong-by-requires c κs =
     let kept = m4 .kept in
     (omega (arith, c .before .before .before .before .before .before .before .before .before .before .before .before .before .before .before .before .before .before .pre .0), kept .size, kept .each i (omega (arith, c .before .before .before .before .before .before .before .before .before .before .before .before .before .before .before .before .before .before .pre .0)) (m4 .still i (omega (arith, c .before .before .before .before .before .before .before .before .before .before .before .before .before .before .before .before .before .before .pre .0)) (m3 .still i (omega (arith, c .before .before .before .before .before .before .before .before .before .before .before .before .before .before .before .before .before .before .pre .0)) (m2 .still i (omega (arith, c .before .before .before .before .before .before .before .before .before .before .before .before .before .before .before .before .before .before .pre .0)) (m1 .here)))))
 
-add-wrong-by : tie.Need-add-wrong-by
-add-wrong-by c = search needs
-
 wrong-by-requires-2 : tie.Need-wrong-by-requires-2
 wrong-by-requires-2 c κs =
     let i = c .before .before .before .before .before .before .before .before .before .before .before .before .before .before .before .before .before .before .before .before .args .i in
@@ -54,9 +39,6 @@ wrong-by-requires-2 c κs =
     let m4 = c .before .before .before .before .before .ready4 .ensures in
     let kept = m4 .kept in
     (omega (arith, c .before .before .before .before .before .before .before .before .before .before .before .before .before .before .before .before .before .before .before .before .pre .0), kept .size, kept .each (i + 1) (omega (arith, c .before .before .before .before .before .before .before .before .before .before .before .before .before .before .before .before .before .before .before .before .pre .0)) (m4 .still (i + 1) (omega (arith, c .before .before .before .before .before .before .before .before .before .before .before .before .before .before .before .before .before .before .before .before .pre .0)) (m3 .still (i + 1) (omega (arith, c .before .before .before .before .before .before .before .before .before .before .before .before .before .before .before .before .before .before .before .before .pre .0)) (m2 .here))))
-
-add-wrong-by-2 : tie.Need-add-wrong-by-2
-add-wrong-by-2 c = search needs
 
 wrong-by-requires-3 : tie.Need-wrong-by-requires-3
 wrong-by-requires-3 c κs =
@@ -68,9 +50,6 @@ wrong-by-requires-3 c κs =
     let kept = m4 .kept in
     (omega (arith, c .before .before .before .before .before .before .before .before .before .before .before .before .before .before .before .before .before .before .before .before .before .before .pre .0), kept .size, kept .each (i + 2) (omega (arith, c .before .before .before .before .before .before .before .before .before .before .before .before .before .before .before .before .before .before .before .before .before .before .pre .0)) (m4 .still (i + 2) (omega (arith, c .before .before .before .before .before .before .before .before .before .before .before .before .before .before .before .before .before .before .before .before .before .before .pre .0)) (m3 .here)))
 
-add-wrong-by-3 : tie.Need-add-wrong-by-3
-add-wrong-by-3 c = search needs
-
 wrong-by-requires-4 : tie.Need-wrong-by-requires-4
 wrong-by-requires-4 c κs =
     let i = c .before .before .before .before .before .before .before .before .before .before .before .before .before .before .before .before .before .before .before .before .before .before .before .before .args .i in
@@ -80,27 +59,6 @@ wrong-by-requires-4 c κs =
     let m4 = c .before .before .before .before .before .before .before .before .before .ready4 .ensures in
     let kept = m4 .kept in
     (omega (arith, c .before .before .before .before .before .before .before .before .before .before .before .before .before .before .before .before .before .before .before .before .before .before .before .before .pre .0), kept .size, kept .each (i + 3) (omega (arith, c .before .before .before .before .before .before .before .before .before .before .before .before .before .before .before .before .before .before .before .before .before .before .before .before .pre .0)) (m4 .here))
-
-mul-result : tie.Need-mul-result
-mul-result c = search needs
-
-add-result : tie.Need-add-result
-add-result c = search needs
-
-mul-result-2 : tie.Need-mul-result-2
-mul-result-2 c = search needs
-
-add-result-2 : tie.Need-add-result-2
-add-result-2 c = search needs
-
-mul-result-3 : tie.Need-mul-result-3
-mul-result-3 c = search needs
-
-add-result-3 : tie.Need-add-result-3
-add-result-3 c = search needs
-
-same-length : tie.Need-same-length
-same-length c = search needs
 
 returns : tie.Need-returns
 returns c =
@@ -120,25 +78,25 @@ pub four-wrongs-spec : {M : Type 1} → statement M
 four-wrongs-spec =
     tie.close
     (tie.spec
-    ready-requires
-    add-ready
+    (λ c κs. search needs)
+    (λ c. search needs)
     ready-requires-2
-    add-ready-2
+    (λ c. search needs)
     ready-requires-3
-    add-ready-3
+    (λ c. search needs)
     ready-requires-4
     wrong-by-requires
-    add-wrong-by
+    (λ c. search needs)
     wrong-by-requires-2
-    add-wrong-by-2
+    (λ c. search needs)
     wrong-by-requires-3
-    add-wrong-by-3
+    (λ c. search needs)
     wrong-by-requires-4
-    mul-result
-    add-result
-    mul-result-2
-    add-result-2
-    mul-result-3
-    add-result-3
-    same-length
+    (λ c. search needs)
+    (λ c. search needs)
+    (λ c. search needs)
+    (λ c. search needs)
+    (λ c. search needs)
+    (λ c. search needs)
+    (λ c. search needs)
     returns)

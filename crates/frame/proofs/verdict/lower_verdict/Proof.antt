@@ -8,40 +8,13 @@ use borrow.Author.Needs.{needs}
 use Rattle.frame.proofs.verdict.lower_verdict.Statement.{statement}
 use Rattle.frame.proofs.verdict.lower_verdict.Tie as tie
 
-four-wrongs-requires : tie.Need-four-wrongs-requires
-four-wrongs-requires c κs = search needs
-
-add-result : tie.Need-add-result
-add-result c = search needs
-
-same-length : tie.Need-same-length
-same-length c = search needs
-
 returns : tie.Need-returns
 unfolding covered checks
 returns c = (c .before .before .four-wrongs .ensures .0, λ o h. rw (c .before .before .before .before .if1 .taken) (omega (arith, c .before .before .four-wrongs .ensures .2 o h)))
 
-four-wrongs-requires-2 : tie.Need-four-wrongs-requires-2
-four-wrongs-requires-2 c κs = search needs
-
-add-result-2 : tie.Need-add-result-2
-add-result-2 c = search needs
-
-same-length-2 : tie.Need-same-length-2
-same-length-2 c = search needs
-
 returns-2 : tie.Need-returns-2
 unfolding covered checks
 returns-2 c = (c .before .before .four-wrongs2 .ensures .0, λ o h. rw (c .before .before .before .before .if2 .taken) (omega (arith, c .before .before .four-wrongs2 .ensures .2 o h)))
-
-one-wrong-requires : tie.Need-one-wrong-requires
-one-wrong-requires c κs = search needs
-
-add-result-3 : tie.Need-add-result-3
-add-result-3 c = search needs
-
-same-length-3 : tie.Need-same-length-3
-same-length-3 c = search needs
 
 returns-3 : tie.Need-returns-3
 unfolding covered checks
@@ -54,16 +27,16 @@ pub lower-verdict-spec : {M : Type 1} → statement M
 lower-verdict-spec =
     tie.close
     (tie.spec
-    four-wrongs-requires
-    add-result
-    same-length
+    (λ c κs. search needs)
+    (λ c. search needs)
+    (λ c. search needs)
     returns
-    four-wrongs-requires-2
-    add-result-2
-    same-length-2
+    (λ c κs. search needs)
+    (λ c. search needs)
+    (λ c. search needs)
     returns-2
-    one-wrong-requires
-    add-result-3
-    same-length-3
+    (λ c κs. search needs)
+    (λ c. search needs)
+    (λ c. search needs)
     returns-3
     returns-4)
