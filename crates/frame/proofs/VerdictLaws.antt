@@ -1,18 +1,17 @@
 -- How the code's modes, verdicts and wrong CRCs come to the definitions.
 -- Assumes nothing.
 use mathlib.Core.Path.{_≡_, refl, sym, _∙_, ap, subst}
-use mathlib.Core.Bool.{not, false, cond}
+use mathlib.Core.Bool.{not, false}
 use mathlib.Core.List.{List, [], _∷_}
 use Prim.Native.Nat.{ℕ, zero, suc, _+_, _*_, _≤_}
 use native.Mathlib.Omega.{arith}
 use borrow.Author.Tests.{eq-eqb, ne-eqb}
-use lib.Dec.{eqb, ltb}
+use lib.Dec.{eqb}
 use lib.ListN.{getD, List·getD-eq-default}
 use Rattle.bits.specs.Bit.{toN}
 use Rattle.channel.specs.declared.Pattern.the-variants.{Low}
 use Rattle.channel.specs.declared.Kind.{Kind}
 use Rattle.channel.specs.declared.Kind.the-variants.{Speech, Data, Om, Configuration, NoSpeech, Lower, Amr670, Amr740}
-use Rattle.channel.specs.Kinds.{kindNo}
 use Rattle.channel.specs.Coding.{Word, c1to3}
 use Rattle.channel.specs.Crc.{right}
 use Rattle.channel.specs.Checks.{checks, checksLower}
@@ -59,20 +58,6 @@ after-le x g NoSpeech = omega arith
 after-le x g Lower = omega (arith, own-le g)
 after-le x g Amr670 = omega arith
 after-le x g Amr740 = omega arith
-
--- the context that is left, by the kind's number n
-pub after-by : (x : Context) (g : Word) (k : Kind) (n : ℕ) → n ≡ kindNo k → afterOf x g k ≡ cond (ltb n 5) 1 (cond (eqb n 6) (2 + ownMode g) 2)
-after-by x g k n e = rw e (by k)
-  where
-    by : (k : Kind) → afterOf x g k ≡ cond (ltb (kindNo k) 5) 1 (cond (eqb (kindNo k) 6) (2 + ownMode g) 2)
-    by Speech = refl
-    by Data = refl
-    by Om = refl
-    by Configuration = refl
-    by NoSpeech = refl
-    by Lower = refl
-    by Amr670 = refl
-    by Amr740 = refl
 
 pub context-le : (x : Context) → contextMode x ≤ 3
 context-le zero = omega arith

@@ -99,13 +99,17 @@ pub fn verdict_in(o: [u8; 20], k: Kind, x: u8, m: &mut [u64]) -> u8
 pub fn after(o: [u8; 20], k: Kind, x: u8) -> u8
     ensures { λ r. ⌜ r ≡ afterOf x (bitAt o) k ⌝ }
 {
-    let n = kinds::number(k);
-    if n < 5 {
-        return 1;
+    match k {
+        Kind::Speech => 1,
+        Kind::Data => 1,
+        Kind::Om => 1,
+        Kind::Configuration => 1,
+        Kind::NoSpeech => 2,
+        Kind::Lower => {
+            let own = own_mode(word::words_of(&o));
+            2 + own
+        }
+        Kind::Amr670 => 2,
+        Kind::Amr740 => 2,
     }
-    if n == 6 {
-        let own = own_mode(word::words_of(&o));
-        return 2 + own;
-    }
-    2
 }

@@ -1,20 +1,28 @@
--- `frame::verdict::after` meets its contract: by the number of the kind; a kind 6 leaves the mode that its own C bits name.
+-- `frame::verdict::after` meets its contract: a kind 6 leaves the mode that its own C bits name.
 -- Assumes nothing.
-use Rattle.bits.specs.Bit.{bitAt}
+use mathlib.Core.Path.{ap}
+use Prim.Native.Nat.{ℕ, _+_}
 use borrow.Author.Needs.{needs}
-use borrow.Author.Tests.{ne-eqb, lt-ltb, le-ltb}
-use Rattle.frame.proofs.VerdictLaws.{after-by}
 use Rattle.frame.proofs.verdict.after.Statement.{statement}
 use Rattle.frame.proofs.verdict.after.Tie as tie
 
-number-requires : tie.Need-number-requires
-number-requires c κs = search needs
+enum-told : tie.Need-enum-told
+enum-told c = search needs
 
-returns : tie.Need-returns
-returns c =
-    let a = c .before .before .args in
-    let n = c .before .number in
-    rw (after-by (a .x) (bitAt (a .t1)) (a .k) (n .result) (n .ensures), lt-ltb (n .result) 5 (c .if1 .taken))
+enum-told-2 : tie.Need-enum-told-2
+enum-told-2 c = search needs
+
+enum-told-3 : tie.Need-enum-told-3
+enum-told-3 c = search needs
+
+enum-told-4 : tie.Need-enum-told-4
+enum-told-4 c = search needs
+
+enum-told-5 : tie.Need-enum-told-5
+enum-told-5 c = search needs
+
+enum-told-6 : tie.Need-enum-told-6
+enum-told-6 c = search needs
 
 slice-aggregate-words-of : tie.Need-slice-aggregate-words-of
 slice-aggregate-words-of c = search needs
@@ -28,27 +36,57 @@ own-mode-requires c κs = search needs
 add-result : tie.Need-add-result
 add-result c = search needs
 
+enum-told-7 : tie.Need-enum-told-7
+enum-told-7 c = search needs
+
+enum-told-8 : tie.Need-enum-told-8
+enum-told-8 c = search needs
+
+returns : tie.Need-returns
+returns c = rw (c .enum-told .given .1)
+
 returns-2 : tie.Need-returns-2
-returns-2 c =
-    let a = c .before .before .before .before .before .before .args in
-    let n = c .before .before .before .before .before .number in
-    rw (after-by (a .x) (bitAt (a .t1)) (a .k) (n .result) (n .ensures), c .before .before .before .if2 .taken, c .own-mode .ensures .1 (a .t1) (c .before .words-of .ensures))
+returns-2 c = rw (c .enum-told2 .given .1)
 
 returns-3 : tie.Need-returns-3
-returns-3 c =
-    let a = c .before .before .before .args in
-    let n = c .before .before .number in
-    rw (after-by (a .x) (bitAt (a .t1)) (a .k) (n .result) (n .ensures), le-ltb (n .result) 5 (c .before .if1 .left), ne-eqb (n .result) 6 (c .if2 .left))
+returns-3 c = rw (c .enum-told3 .given .1)
+
+returns-4 : tie.Need-returns-4
+returns-4 c = rw (c .enum-told4 .given .1)
+
+returns-5 : tie.Need-returns-5
+returns-5 c = rw (c .enum-told5 .given .1)
+
+returns-6 : tie.Need-returns-6
+returns-6 c = rw (c .before .before .before .enum-told6 .given .1) (ap (λ (m : ℕ). 2 + m) (c .own-mode .ensures .1 (c .before .before .before .before .before .args .t1) (c .before .words-of .ensures)))
+
+returns-7 : tie.Need-returns-7
+returns-7 c = rw (c .enum-told7 .given .1)
+
+returns-8 : tie.Need-returns-8
+returns-8 c = rw (c .enum-told8 .given .1)
 
 pub after-spec : {M : Type 1} → statement M
 after-spec =
     tie.close
     (tie.spec
-    number-requires
-    returns
+    enum-told
+    enum-told-2
+    enum-told-3
+    enum-told-4
+    enum-told-5
+    enum-told-6
     slice-aggregate-words-of
     words-of-requires
     own-mode-requires
     add-result
+    enum-told-7
+    enum-told-8
+    returns
     returns-2
-    returns-3)
+    returns-3
+    returns-4
+    returns-5
+    returns-6
+    returns-7
+    returns-8)
