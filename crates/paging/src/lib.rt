@@ -35,8 +35,10 @@ struct Counted {
 fn refusal(bytes: usize, r: Request) -> u64
     ensures { λ number. ⌜ number ≡ refusalOf bytes r ⌝ }
 {
-    let cursor = r.cursor;
     let terms = r.terms;
+    let cursor = r.cursor;
+    let n = r.n;
+    let position = cursor.position;
     if 1 < terms.direction {
         return 1;
     }
@@ -47,10 +49,10 @@ fn refusal(bytes: usize, r: Request) -> u64
         return 2;
     }
     let bits = 8 * bytes as u64;
-    if bits < r.n {
+    if bits < n {
         return 2;
     }
-    if r.n < cursor.position {
+    if n < position {
         return 3;
     }
     if 5 < cursor.context {

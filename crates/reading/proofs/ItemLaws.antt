@@ -18,10 +18,6 @@ not-some : {F : Type 0} (o : Option F) (f : F) → has o ≡ false → o ≡ som
 not-some none f h e = let z : _≡_ {A = ℕ} 0 1 = cc in omega arith
 not-some (some g) f h e = let z : _≡_ {A = ℕ} 0 1 = cc in omega arith
 
-none-not : {F : Type 0} (o : Option F) → has o ≡ false → o ≡ none
-none-not none h = refl
-none-not (some f) h = let z : some f ≡ none = cc in z
-
 has-some : {F : Type 0} (o : Option F) → has o ≡ true → (f : F) × (o ≡ some f)
 has-some none h = let z : _≡_ {A = ℕ} 0 1 = cc in absurd (omega arith)
 has-some (some f) h = (f, refl)

@@ -1,6 +1,6 @@
 -- The laws of a reading: one at most, one at least; it splits and joins; pages of whatever sizes, joined, are it.
 -- Assumes nothing.
-use mathlib.Core.Path.{_≡_, refl, sym}
+use mathlib.Core.Path.{_≡_, refl}
 use mathlib.Core.Bool.{Bool, true, false, cond}
 use mathlib.Core.List.{List, [], _∷_, _++_}
 use Prim.Native.Nat.{ℕ, zero, suc, _+_, _-_, _≤_}
@@ -100,16 +100,6 @@ module _ {W X F : Type 0} (R : Rules W X F) (w : W) (S : Sound R w) where
   -- what obeys the rules is what is computed
   pub is-read : (c : Cursor X) (xs : List (Item F)) → Reading R w c xs → xs ≡ read c
   is-read c xs h = unique c xs (read c) h (exists c (omega (arith, stretch-later c xs (h .0), h .1)))
-
-  -- at n nothing is left
-  pub read-end : (c : Cursor X) → c .position ≡ R .end w → read c ≡ []
-  read-end c h = sym (is-read c [] (tt, h))
-
-  -- an item that obeys the rules at a cursor is the first of the reading from there
-  pub read-step : (c : Cursor X) (x : Item F) → Obeys R w c x → read c ≡ x ∷ read (over R c x)
-  read-step c x o =
-      let r = exists (over R c x) (within R w S c x o) in
-      sym (is-read c (x ∷ read (over R c x)) ((o, r .0), r .1))
 
   -- pages of whatever sizes, joined, are the one reading
   pub pages-are-read : (c : Cursor X) (xss : List (List (Item F))) → Pages R w c xss → joined xss ≡ read c

@@ -2,20 +2,21 @@
 -- Assumes nothing.
 use mathlib.Core.Path.{_≡_, refl, sym, _∙_, ap, subst, fun-ext}
 use mathlib.Core.Bool.{Bool, true, false, _&&_}
-use mathlib.Core.List.{List, [], _∷_, _++_}
+use mathlib.Core.List.{List, [], _∷_, _++_, map}
 use Prim.Native.Nat.{ℕ, _+_, _-_, _<_}
 use native.Mathlib.Nat.{zero-add}
 use native.Mathlib.Omega.{arith}
 use borrow.Author.Tests.{ltb-true}
 use lib.Dec.{ltb}
-use lib.ListN.{length, getD, take, length-append, length-take}
+use lib.ListN.{length, getD, take, drop, length-append, length-take}
+use lib.Seq.{drop-at}
 use Rattle.channel.specs.declared.Terms.{Terms}
 use Rattle.channel.specs.declared.Kind.{Kind}
 use Rattle.channel.specs.declared.Kind.the-variants.{Speech, Data, Om, Configuration, NoSpeech, Lower, Amr670, Amr740}
 use Rattle.channel.specs.Kinds.{kinds, kindNo, bodyOf}
 use Rattle.channel.specs.Coding.{Word, wordAt, isBody}
 use Rattle.channel.specs.Control.{control, extended}
-use Rattle.channel.specs.Record.{dBytes, wide, numberAt, dLength, recordOf, records}
+use Rattle.channel.specs.Record.{dBytes, wide, numberAt, dLength, sizeOf, recordOf, records}
 use Rattle.reading.specs.Reading.{Cursor, Item, gap, frame, Obeys, over, Stretch}
 use Rattle.channel.specs.Verdict.{Context}
 use Rattle.channel.specs.Frames.{Capture, Frame, rules}
@@ -177,3 +178,28 @@ module _ (w : Capture) (short : w .n < 4294967296) where
   pub stretch-fit : (c : Cursor Context) (xs : List (Item Frame)) → Stretch rules w c xs → AllFit (w .terms) xs
   stretch-fit c [] s = tt
   stretch-fit c (x ∷ xs) s = (obeys-fit c x (s .0), stretch-fit (over rules c x) xs (s .1))
+
+-- a frame's record in front tells its kind, and so where it ends
+front-kind : (f g : Frame) (r s : List ℕ) → recordOf (frame f) ++ r ≡ recordOf (frame g) ++ s → f .kind ≡ g .kind
+unfolding recordOf
+front-kind f g r s e = kind-one (f .kind) (g .kind) (cc)
+
+front-rest : (f g : Frame) (r s : List ℕ) → recordOf (frame f) ++ r ≡ recordOf (frame g) ++ s → r ≡ s
+front-rest f g r s e =
+    let l : sizeOf (frame g) ≡ sizeOf (frame f) = ap (λ (k : Kind). 12 + dLength k) (sym (front-kind f g r s e)) in
+    sym (drop-at (recordOf (frame f)) r (sizeOf (frame f)) (record-length (frame f))) ∙ ap (drop (sizeOf (frame f))) e
+    ∙ drop-at (recordOf (frame g)) s (sizeOf (frame f)) (record-length (frame g) ∙ l)
+
+-- and it is that of no gap
+front-gap : (start span : ℕ) (g : Frame) (r s : List ℕ) → recordOf (gap start span) ++ r ≡ recordOf (frame g) ++ s → ⊥
+unfolding recordOf
+front-gap start span g r s e = no-gap (g .kind) (cc)
+
+-- so items with the records of frames are frames
+pub all-frames : (xs : List (Item Frame)) (gs : List Frame) → records xs ≡ records (map frame gs) → (fs : List Frame) × (xs ≡ map frame fs)
+all-frames [] gs e = ([], refl)
+all-frames (x ∷ xs) [] e = absurd (omega (arith, ap length e, length-append (recordOf x) (records xs), record-length x, size-pos x))
+all-frames (gap start span ∷ xs) (g ∷ gs) e = absurd (front-gap start span g (records xs) (records (map frame gs)) e)
+all-frames (frame f ∷ xs) (g ∷ gs) e =
+    let (fs, q) = all-frames xs gs (front-rest f g (records xs) (records (map frame gs)) e) in
+    (f ∷ fs, ap (λ (l : List (Item Frame)). frame f ∷ l) q)

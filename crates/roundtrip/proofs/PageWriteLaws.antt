@@ -1,22 +1,19 @@
 -- Demand 2 from call to call: what a page answers without a gap, written from the cursor it was read at, is refused only by 4, exactly where it ends past the
 -- buffer, and else gives its own bits.
 -- Assumes nothing.
-use mathlib.Core.Path.{_≡_, refl, sym, _∙_, ap, ap₂, subst}
+use mathlib.Core.Path.{_≡_, sym, _∙_, ap, ap₂, subst}
 use mathlib.Core.Bool.{cond}
-use mathlib.Core.List.{List, [], _∷_, _++_}
-use Prim.Native.Nat.{ℕ, _+_, _*_, _≤_, _<_}
+use mathlib.Core.List.{List}
+use Prim.Native.Nat.{ℕ, _*_, _≤_, _<_}
 use native.Mathlib.Omega.{arith}
 use lib.Dec.{ltb}
-use lib.ListN.{length, take, drop, length-append, length-map}
-use lib.Seq.{drop-at}
-use Rattle.reading.specs.Reading.{Cursor, Item, gap, frame, overAll, Stretch}
+use lib.ListN.{length, take, length-map}
+use Rattle.reading.specs.Reading.{Cursor, frame, overAll, Stretch}
 use Rattle.bits.specs.Bit.{bitAt}
-use Rattle.channel.specs.declared.Kind.{Kind}
 use Rattle.channel.specs.Verdict.{Context}
 use Rattle.channel.specs.Frames.{Capture, captureOf, Frame, rules}
-use Rattle.channel.specs.Record.{dLength, sizeOf, recordOf, records}
-use Rattle.record.proofs.RecordLaws.{record-length, size-pos}
-use Rattle.record.proofs.OneLaws.{kind-one, no-gap}
+use Rattle.channel.specs.Record.{records}
+use Rattle.record.proofs.OneLaws.{all-frames}
 use Rattle.call.specs.declared.Answer.{Answer}
 use Rattle.call.specs.Call.{termsBy, cursorBy, next, answeredBy}
 use Rattle.paging.specs.declared.Request as paging
@@ -25,31 +22,6 @@ use Rattle.writing.specs.declared.Request as writing
 use Rattle.writing.specs.Writing.{refusalOf, items, WriteCall}
 use Rattle.paging.proofs.HarvestLaws.{got, got-bytes, stretch, request}
 use Rattle.roundtrip.proofs.OwnLaws.{own-number, own-answer, own-bits}
-
--- a frame's record in front tells its kind, and so where it ends
-front-kind : (f g : Frame) (r s : List ℕ) → recordOf (frame f) ++ r ≡ recordOf (frame g) ++ s → f .kind ≡ g .kind
-unfolding recordOf
-front-kind f g r s e = kind-one (f .kind) (g .kind) (cc)
-
-front-rest : (f g : Frame) (r s : List ℕ) → recordOf (frame f) ++ r ≡ recordOf (frame g) ++ s → r ≡ s
-front-rest f g r s e =
-    let l : sizeOf (frame g) ≡ sizeOf (frame f) = ap (λ (k : Kind). 12 + dLength k) (sym (front-kind f g r s e)) in
-    sym (drop-at (recordOf (frame f)) r (sizeOf (frame f)) (record-length (frame f))) ∙ ap (drop (sizeOf (frame f))) e
-    ∙ drop-at (recordOf (frame g)) s (sizeOf (frame f)) (record-length (frame g) ∙ l)
-
--- and it is that of no gap
-front-gap : (start span : ℕ) (g : Frame) (r s : List ℕ) → recordOf (gap start span) ++ r ≡ recordOf (frame g) ++ s → ⊥
-unfolding recordOf
-front-gap start span g r s e = no-gap (g .kind) (cc)
-
--- so items with the records of frames are frames
-all-frames : (xs : List (Item Frame)) (gs : List Frame) → records xs ≡ records (items gs) → (fs : List Frame) × (xs ≡ items fs)
-all-frames [] gs e = ([], refl)
-all-frames (x ∷ xs) [] e = absurd (omega (arith, ap length e, length-append (recordOf x) (records xs), record-length x, size-pos x))
-all-frames (gap start span ∷ xs) (g ∷ gs) e = absurd (front-gap start span g (records xs) (records (items gs)) e)
-all-frames (frame f ∷ xs) (g ∷ gs) e =
-    let (fs, q) = all-frames xs gs (front-rest f g (records xs) (records (items gs)) e) in
-    (f ∷ fs, ap (λ (l : List (Item Frame)). frame f ∷ l) q)
 
 -- the frames of a page that has no gap: its bytes are their records, and they are a stretch from its cursor to the one answered
 pub record PageFrames (w : Capture) (c : Cursor Context) (bytes : List ℕ) (p : Answer) : Type 0 where

@@ -114,12 +114,7 @@ length-bits f =
     ∙ ap₂ (λ (a b : ℕ). a + b) (body-length (f .body) (bodyOf (f .kind))) (tail-length (f .tail))
 
 module _ (terms : Terms) (bits : ℕ) where
-  -- every frame taken ends by the end of the buffer
-  pub taken-ends : (c : Cursor Context) (bytes : List ℕ) (fs : List Frame) (f : Frame) (gs : List Frame) (left : List ℕ) → Taken terms bits c bytes (fs ++ (f ∷ gs)) left → behind f ≤ bits
-  taken-ends c bytes [] f gs left (r, h, z, t) = passes bits c f z .ends
-  taken-ends c bytes (g ∷ fs) f gs left (r, h, z, t) = taken-ends (over rules c (frame g)) r fs f gs left t
-
-  -- and so does the cursor
+  -- the cursor behind frames taken ends by the end of the buffer
   pub taken-within : (c : Cursor Context) (bytes : List ℕ) (fs : List Frame) (left : List ℕ) → Taken terms bits c bytes fs left → c .position ≤ bits → overAll rules c (items fs) .position ≤ bits
   taken-within c bytes [] left t h = h
   taken-within c bytes (f ∷ fs) left (r, i, z, t) h = taken-within (over rules c (frame f)) r fs left t (passes bits c f z .ends)

@@ -35,7 +35,7 @@ fill-requires c κs =
     let a = c .before .before .before .before .before .before .before .before .args in
     let z : c .before .before .before .before .before .refusal .result ≡ 0 = omega arith in
     let m = admitted (length (a .capture .now)) (a .r) (sym (c .before .before .before .before .before .refusal .ensures) ∙ z) in
-    (m .inside, m .count, m .short)
+    (omega (arith, m .inside), omega (arith, m .count), m .short)
 
 answer-requires : tie.Need-answer-requires
 answer-requires c κs = search needs
