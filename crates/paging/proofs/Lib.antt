@@ -2,4 +2,3 @@ pub mod CallLaws
 pub mod PagedLaws
 pub mod HarvestLaws
 pub mod UnseenLaws
-pub mod ItemLaws

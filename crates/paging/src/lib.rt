@@ -1,19 +1,14 @@
 // Paging: the longest leading part of the reading from a cursor that keeps to a count and fits a lent buffer.
 ghost use mathlib.Core.Path.{_≡_};
 ghost use mathlib.Core.Bool.{_&&_};
-ghost use Prim.Native.Nat.{_*_, _≤_};
 ghost use lib.Dec.{eqb, ltb};
-ghost use lib.ListN.{length};
-ghost use Rattle.reading.specs.Paging.{Filled};
-ghost use Rattle.channel.specs.Frames.{captureOf, rules};
 ghost use Rattle.item.specs.Item.{cursorOf};
-ghost use Rattle.channel.specs.Record.{recordOf};
 ghost use Rattle.paging.specs.Paging.{refusalOf, PageCall};
 ghost use Rattle.paging.specs.Answered.{answerOf};
 use call::Answer;
 use call::CursorNumbers;
 use call::TermNumbers;
-use channel::Terms;
+use filling::Counted;
 use item::Cursor;
 
 // What is asked of a page: how many bits the capture has, what is agreed of it, the cursor, and most items.
@@ -22,13 +17,6 @@ pub struct Request {
     pub terms: TermNumbers,
     pub cursor: CursorNumbers,
     pub most: u64,
-}
-
-// The items and bytes of a page, and the cursor moved on over them.
-struct Counted {
-    items: u64,
-    bytes: usize,
-    cursor: Cursor,
 }
 
 // The numbers 1 to 3 in their order, or 0.
@@ -59,50 +47,6 @@ fn refusal(bytes: usize, r: Request) -> u64
         return 3;
     }
     0
-}
-
-// Fills the buffer with records from the cursor on, each lent the part that begins where the last ended. What the records need besides is made here, for the
-// whole page: the table of D places, and as each first frame comes the plan of its kind and the masks of its CRCs.
-fn fill(s: &[u8], n: usize, t: Terms, c: Cursor, most: u64, buffer: &mut [u8]) -> Counted
-    requires { ⌜ (c .position ≤ n) × (n ≤ 8 * length (now s)) × (length (now s) ≤ 65536) ⌝ }
-    ensures { λ r. ⌜ Filled rules recordOf (captureOf (now (s .entry)) n t) (cursorOf c) most (now (buffer .entry)) (now (buffer .exit)) (r .items) (r .bytes) (cursorOf (r .cursor)) ⌝ }
-{
-    let mut items: u64 = 0;
-    let mut at: usize = 0;
-    let mut cursor = c;
-    let table = dbits::table();
-    let mut plan = dbits::no_plans();
-    let mut masks = frame::no_masks();
-    while items < most {
-        let p = cursor.position;
-        if n <= p {
-            return Counted {
-                items: items,
-                bytes: at,
-                cursor: cursor,
-            };
-        }
-        let i = reader::item_at(s, n, t, cursor, &mut masks);
-        let kind = i.kind;
-        let size = record::size(kind);
-        if buffer.len() - at < size {
-            return Counted {
-                items: items,
-                bytes: at,
-                cursor: cursor,
-            };
-        }
-        record::ready(&mut plan, &table, kind);
-        record::put(&mut buffer[at..], i, &table, &plan);
-        cursor = cursor.over(i);
-        at += size;
-        items += 1;
-    }
-    Counted {
-        items: items,
-        bytes: at,
-        cursor: cursor,
-    }
 }
 
 // Number 4: an item is left and none was taken, for then the first does not fit.
@@ -149,7 +93,7 @@ pub fn page(capture: &[u8], r: Request, buffer: &mut [u8]) -> Answer
         position: cursor.position as usize,
         context: cursor.context as u8,
     };
-    let page = fill(
+    let page = filling::fill(
         capture,
         r.n as usize,
         call::terms_of(r.terms),

@@ -1,6 +1,6 @@
 -- Demand 3 over any rules and any records: the pages of a harvest, joined, are the records of the one reading, whatever the counts and buffers.
 -- Assumes nothing.
-use mathlib.Core.Path.{_≡_, refl, sym, _∙_, ap, subst}
+use mathlib.Core.Path.{_≡_, refl, sym, _∙_, ap, ap₂, subst}
 use mathlib.Core.Bool.{true, false}
 use mathlib.Core.List.{List, [], _∷_, _++_}
 use Prim.Native.Nat.{ℕ, _≤_, _<_}
@@ -12,7 +12,15 @@ use Rattle.reading.specs.Reading.{Rules, Cursor, Item, gap, frame, over,
 use Rattle.reading.specs.Paging.{recordsBy, firstLeft, Filled, Delivery, bytesOf, itemsOf, Delivered}
 use Rattle.reading.proofs.ItemLaws.{later}
 use Rattle.reading.proofs.ReadingLaws.{stretch-split, stretch-later, stretch-within, unique, pages-joined}
-use Rattle.reading.proofs.PageLaws.{records-append}
+use Rattle.reading.proofs.PageLaws.{records-append, page-one}
+
+-- no second buffer, count or cursor is that of a page
+pub filled-one : {W X F : Type 0} (R : Rules W X F) (recordOf : Item F → List ℕ) (w : W) → Sound R w → (c : Cursor X) (most : ℕ) (before after later : List ℕ) (items bytes items′ bytes′ : ℕ) (to to′ : Cursor X)
+    → Filled R recordOf w c most before after items bytes to → Filled R recordOf w c most before later items′ bytes′ to′ → (after ≡ later) × (items ≡ items′) × (bytes ≡ bytes′) × (to ≡ to′)
+filled-one {F = F} R recordOf w S c most before after later items bytes items′ bytes′ to to′ f g =
+    let z : f .page ≡ g .page = page-one R recordOf w S c most (length before) (f .page) (g .page) (f .longest) (g .longest) in
+    let b : bytes ≡ bytes′ = f .sized ∙ ap (λ (l : List (Item F)). length (recordsBy recordOf l)) z ∙ sym (g .sized) in
+    (f .written ∙ ap₂ (λ (l : List (Item F)) (k : ℕ). recordsBy recordOf l ++ drop k before) z b ∙ sym (g .written), f .counted ∙ ap length z ∙ sym (g .counted), b, f .moved ∙ ap (overAll R c) z ∙ sym (g .moved))
 
 -- a page that was filled
 module _ {W X F : Type 0} (R : Rules W X F) (recordOf : Item F → List ℕ) (w : W) (c : Cursor X) (most : ℕ) (before after : List ℕ) (items bytes : ℕ) (cursor : Cursor X)

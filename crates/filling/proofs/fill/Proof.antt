@@ -1,4 +1,4 @@
--- `paging::fill` meets its contract: the invariant is that the items done are a stretch from the cursor, with their records in front.
+-- `filling::fill` meets its contract: the invariant is that the items done are a stretch from the cursor, with their records in front.
 -- Assumes nothing.
 use mathlib.Core.Path.{_≡_, sym, _∙_, subst}
 use Prim.Native.Nat.{ℕ, _+_, _-_, _≤_}
@@ -16,10 +16,10 @@ use Rattle.frame.specs.Kept.{Kept}
 use Rattle.item.specs.Item.{itemOf, cursorOf}
 use Rattle.channel.specs.Record.{sizeOf, recordOf}
 use Rattle.record.proofs.RecordLaws.{record-length, size-of, size-le}
-use Rattle.paging.proofs.ItemLaws.{item-small}
+use Rattle.filling.proofs.ItemLaws.{item-small}
 use borrow.Author.Needs.{needs}
-use Rattle.paging.proofs.fill.Statement.{statement}
-use Rattle.paging.proofs.fill.Tie as tie
+use Rattle.filling.proofs.fill.Statement.{statement}
+use Rattle.filling.proofs.fill.Tie as tie
 
 abbrev Inv-loop : tie.InvT-loop
 Inv-loop s n t most buffer₀ items₀ at₀ cursor₀ table plan₀ masks₀ buffer items at cursor plan masks =
