@@ -1,12 +1,11 @@
 -- `bits::octet` meets its contract: one law for each way out, by where n falls.
 -- Assumes nothing.
 use Prim.Native.Nat.{_+_, _/_, _<_}
-use mathlib.Core.Path.{_≡_}
 use native.Mathlib.Omega.{arith}
 use borrow.Author.Needs.{needs}
 use lib.ListN.{getD}
 use Rattle.bits.specs.Bit.{bitAt}
-use Rattle.bits.proofs.BitLaws.{shifted, octet-past, octet-whole, octet-edge}
+use Rattle.bits.proofs.BitLaws.{shifted-by, octet-past, octet-whole, octet-edge}
 use Rattle.bits.proofs.octet.Statement.{statement}
 use Rattle.bits.proofs.octet.Tie as tie
 
@@ -32,9 +31,9 @@ returns-2 : tie.Need-returns-2
 returns-2 c =
     let a = c .before .before .before .before .before .before .args in
     let next = c .before .before .byte-or-zero in
+    let x = c .before .join in
     let fits : getD (a .s .now) (a .q / 8 + 1) 0 < 256 = omega (arith, next .ensures) in
-    let whole : c .before .join .result ≡ shifted (a .s .now) (a .q) = cc in
-    octet-whole (a .s .now) (a .n) (a .q) (c .before .join .result) fits whole (omega arith)
+    octet-whole (a .s .now) (a .n) (a .q) (x .result) fits (shifted-by (a .s .now) (a .q) (next .result) (x .result) (x .ensures) (next .ensures)) (c .if2 .taken)
 
 sub-top : tie.Need-sub-top
 sub-top c = search needs
@@ -46,10 +45,10 @@ returns-3 : tie.Need-returns-3
 returns-3 c =
     let a = c .before .before .before .before .before .before .before .args in
     let next = c .before .before .before .byte-or-zero in
-    let x = c .before .before .join .result in
+    let x = c .before .before .join in
     let fits : getD (a .s .now) (a .q / 8 + 1) 0 < 256 = omega (arith, next .ensures) in
-    let whole : x ≡ shifted (a .s .now) (a .q) = cc in
-    octet-edge (a .s .now) (a .n) (a .q) x (c .top .result) fits whole (omega arith) (c .top .ensures) (omega arith) (omega arith)
+    let whole = shifted-by (a .s .now) (a .q) (next .result) (x .result) (x .ensures) (next .ensures) in
+    octet-edge (a .s .now) (a .n) (a .q) (x .result) (c .top .result) fits whole (omega arith) (c .top .ensures) (c .before .before .before .before .before .if1 .left) (c .before .if2 .left)
 
 pub octet-spec : {M : Type 1} → statement M
 octet-spec =
