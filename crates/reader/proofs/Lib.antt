@@ -1,4 +1,3 @@
-pub mod TailLaws
 pub mod SeenLaws
 pub mod GapLaws
 pub mod ItemLaws

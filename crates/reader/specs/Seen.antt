@@ -1,10 +1,10 @@
--- What is seen at a place: the zero that ends a tail, the frame that is due, a start of a run, the end of a gap, the item (document 01, "Reading rules").
+-- What is seen at a place: the frame that is due, a start of a run, the end of a gap, the item (document 01, "Reading rules").
 -- Assumes nothing.
 use mathlib.Core.Path.{_≡_}
 use mathlib.Core.Logic.{_⊎_}
 use mathlib.Core.Bool.{Bool, true, false}
 use mathlib.Core.List.{List}
-use Prim.Native.Nat.{ℕ, _-_, _/_, _%_, _^_, _≤_, _<_}
+use Prim.Native.Nat.{ℕ, _≤_, _<_}
 use lib.ListN.{replicate}
 use Rattle.reading.specs.Reading.{Cursor, Starts, Obeys}
 use Rattle.bits.specs.Bit.{twenty, bitsFrom}
@@ -14,13 +14,6 @@ use Rattle.item.specs.declared.ItemKind.{ItemKind}
 use Rattle.item.specs.declared.ItemKind.the-variants as of
 use Rattle.item.specs.declared.Item.{Item}
 use Rattle.item.specs.Item.{frameOf, itemOf}
-
--- bit k is the first of a byte, from bit r on, that is zero; 8 for none
-pub record FirstZero (x r k : ℕ) : Type 0 where
-  pub from : r ≤ k
-  pub within : k ≤ 8
-  pub ones : (j : ℕ) → r ≤ j → j < k → x / 2 ^ (7 - j) % 2 ≡ 1
-  pub zero : k < 8 → x / 2 ^ (7 - k) % 2 ≡ 0
 
 -- a gap of the code: its octets are zeros, its verdict is 0
 abbrev pub gapOf : ℕ → ℕ → Item

@@ -1,10 +1,10 @@
--- `reader::first_zero` meets its contract, by one test of every byte and every bit.
+-- `tails::first_zero` meets its contract, by one test of every byte and every bit.
 -- Assumes nothing.
 use native.Mathlib.Omega.{arith}
-use Rattle.reader.proofs.TailLaws.{counted-high, counted-first, shifted-positive}
+use Rattle.tails.proofs.TailLaws.{counted-high, counted-first, shifted-positive}
 use borrow.Author.Needs.{needs}
-use Rattle.reader.proofs.first_zero.Statement.{statement}
-use Rattle.reader.proofs.first_zero.Tie as tie
+use Rattle.tails.proofs.first_zero.Statement.{statement}
+use Rattle.tails.proofs.first_zero.Tie as tie
 
 sub-zeros : tie.Need-sub-zeros
 sub-zeros c = search needs

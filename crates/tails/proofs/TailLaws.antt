@@ -17,7 +17,7 @@ use Rattle.channel.specs.Coding.{all}
 use Rattle.channel.specs.Frames.{captureOf, Tail}
 use Rattle.channel.proofs.BoolLaws.{ands, all-at}
 use Rattle.channel.proofs.DLaws.{elem-count}
-use Rattle.reader.specs.Seen.{FirstZero}
+use Rattle.tails.specs.Zero.{FirstZero}
 
 -- a fact at every number below n, by one test that is computed
 below : (n : ℕ) (t : ℕ → Bool) → all t (count n 0) ≡ true → (v : ℕ) → v < n → t v ≡ true

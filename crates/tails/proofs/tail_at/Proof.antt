@@ -1,4 +1,4 @@
--- `reader::tail_at` meets its contract: all bits passed are ones.
+-- `tails::tail_at` meets its contract: all bits passed are ones.
 -- Assumes nothing.
 use mathlib.Core.Path.{_≡_, refl}
 use mathlib.Core.Logic.{inl, inr}
@@ -6,10 +6,10 @@ use mathlib.Core.Bool.{true}
 use Prim.Native.Nat.{ℕ, _+_, _*_, _-_, _/_, _≤_, _<_}
 use native.Mathlib.Omega.{arith}
 use Rattle.bits.specs.Bit.{bitAt}
-use Rattle.reader.proofs.TailLaws.{ones-more, zero-met, tail-met}
+use Rattle.tails.proofs.TailLaws.{ones-more, zero-met, tail-met}
 use borrow.Author.Needs.{needs}
-use Rattle.reader.proofs.tail_at.Statement.{statement}
-use Rattle.reader.proofs.tail_at.Tie as tie
+use Rattle.tails.proofs.tail_at.Statement.{statement}
+use Rattle.tails.proofs.tail_at.Tie as tie
 
 abbrev Inv-loop : tie.InvT-loop
 Inv-loop s n q end₀ end = (q ≤ end) × ((i : ℕ) → q ≤ i → i < end → bitAt s i ≡ true) × (end ≤ n)
