@@ -28,8 +28,7 @@ use Rattle.channel.specs.Places.{upto, elem, onesOf, cPlaces, c6Places, dPlaces
 use Rattle.channel.specs.Coding.{Word, wordAt, bitsAt, all, ones, odd, fixed, hrCoded, coded, isBody}
 use Rattle.channel.specs.Control.{fromTop, controlPlaces, control, extended}
 use Rattle.channel.specs.Frames.{Frame}
-use Rattle.channel.proofs.BoolLaws.{ands, and-r, and-both, all-at, never}
-use Rattle.channel.proofs.DLaws.{elem-count}
+use Rattle.channel.proofs.BoolLaws.{ands, and-r, and-both, all-at, never, all-below, elem-count}
 use Rattle.channel.proofs.FrameLaws.{uncut}
 use Rattle.channel.proofs.CutLaws.{control-cut, extended-cut}
 use Rattle.channel.specs.declared.Found.{Found}
@@ -93,7 +92,7 @@ foundNo Nothing = 0
 kind-number : (n : ℕ) (k : Kind) → kindBy n ≡ Is k → n ≡ kindNo k
 kind-number n k e =
     by-cases (decLt n 9)
-    (λ (l : n < 9). sym (eqb-true (foundNo (kindBy n)) n (all-at (λ m. eqb (foundNo (kindBy m)) m) (count 9 0) n (elem-count n 9 0 (omega arith) l) refl)) ∙ ap foundNo e)
+    (λ (l : n < 9). sym (eqb-true (foundNo (kindBy n)) n (all-below 9 (λ m. eqb (foundNo (kindBy m)) m) refl n l)) ∙ ap foundNo e)
     (λ (m : ¬ (n < 9)).
     absurd (is-not k (sym (kind-none n (λ z. omega arith) (λ z. omega arith) (λ z. omega arith) (λ z. omega arith) (λ z. omega arith) (λ z. omega arith) (λ z. omega arith) (λ z. omega arith)) ∙ e)))
 

@@ -7,12 +7,12 @@ use Prim.Native.Nat.{ℕ, zero, suc, _+_, _-_, _≤_, _<_}
 use native.Mathlib.Omega.{arith}
 use lib.Dec.{eqb}
 use lib.ListN.{length}
-use borrow.Author.Tests.{eqb-true, eqb-false, not-true}
+use borrow.Author.Tests.{eqb-true, not-true}
 use Rattle.bits.specs.Bit.{count}
 use Rattle.channel.specs.declared.Kind.{Kind}
 use Rattle.channel.specs.Kinds.{kinds, dCount, bodyOf}
 use Rattle.channel.specs.Places.{upto, elem, taken, without, dPlaces}
-use Rattle.channel.proofs.BoolLaws.{ands, and-both, and-false}
+use Rattle.channel.proofs.BoolLaws.{ands, and-both, and-false, elem-count}
 use Rattle.channel.proofs.FrameLaws.{body-low}
 
 -- each kind has as many D bits as the table of kinds says, 1,022 in all
@@ -59,15 +59,6 @@ module _ (ts : List ℕ) where
           let m : elem p ts ≡ false = rw (eqb-true p i q) e in
           rw (q, m)
       go false e false q h = rw q h
-
--- the numbers from a on that a count of k has
-pub elem-count : (p k a : ℕ) → a ≤ p → p < a + k → elem p (count k a) ≡ true
-elem-count p zero a l m = absurd (omega arith)
-elem-count p (suc k) a l m = go (eqb p a) refl (λ n. elem-count p k (suc a) n (omega arith))
-  where
-    go : (t : Bool) → eqb p a ≡ t → (suc a ≤ p → elem p (count k (suc a)) ≡ true) → cond t true (elem p (count k (suc a))) ≡ true
-    go true q h = refl
-    go false q h = let n = eqb-false p a q in h (omega arith)
 
 count-elem : (p k a : ℕ) → elem p (count k a) ≡ true → (a ≤ p) × (p < a + k)
 count-elem p zero a h = let z : _≡_ {A = ℕ} 0 1 = cc in absurd (omega arith)

@@ -19,8 +19,7 @@ use Rattle.channel.specs.declared.Kind.{Kind}
 use Rattle.channel.specs.declared.Kind.the-variants.{Speech, Data, Om, Configuration, NoSpeech, Lower, Amr670, Amr740}
 use Rattle.channel.specs.Kinds.{kindNo, patternOf, bodyOf}
 use Rattle.channel.specs.Places.{elem}
-use Rattle.channel.proofs.BoolLaws.{all-at, never}
-use Rattle.channel.proofs.DLaws.{elem-count}
+use Rattle.channel.proofs.BoolLaws.{all-at, never, elem-count}
 use Rattle.word.specs.Words.{FixedBy}
 use Rattle.word.proofs.MaskLaws.{elem-append, within, mask-at, fixed-at}
 use Rattle.drawings.specs.declared.cell.Cell.{Cell}

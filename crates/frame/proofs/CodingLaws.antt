@@ -3,7 +3,7 @@
 use mathlib.Core.Path.{_≡_, refl, sym, _∙_, ap}
 use mathlib.Core.Bool.{Bool, true, false, _&&_, cond, Bool·beq}
 use mathlib.Core.List.{List, [], _∷_}
-use Prim.Native.Nat.{ℕ, zero, suc, _+_, _*_, _/_, _%_, _<_, zero-le}
+use Prim.Native.Nat.{ℕ, zero, suc, _+_, _*_, _/_, _%_, _<_}
 use native.Mathlib.Omega.{arith}
 use borrow.Author.Tests.{eq-eqb, ne-eqb}
 use lib.Dec.{T, eqb, ltb, ltb→lt}
@@ -19,8 +19,7 @@ use Rattle.channel.specs.Kinds.{patternOf}
 use Rattle.channel.specs.declared.Kind.the-variants.{Speech, Data, Om, Configuration, NoSpeech, Lower, Amr670, Amr740}
 use Rattle.channel.specs.Places.{elem, cPlaces, xcPlaces}
 use Rattle.channel.specs.Coding.{Word, bitsAt, all, odd, fixed, c1to3, c4to5, c4, c4Coded, hrCoded, xcCoded, speechXc, coded}
-use Rattle.channel.proofs.BoolLaws.{all-at, and-both, and-false, never}
-use Rattle.channel.proofs.DLaws.{elem-count}
+use Rattle.channel.proofs.BoolLaws.{and-both, and-false, never, all-below}
 use Rattle.channel.proofs.FrameLaws.{one-pattern, one-body}
 use Rattle.word.specs.Below.{Below}
 use Rattle.word.proofs.MaskLaws.{beq-same}
@@ -90,7 +89,7 @@ abbrev everywhere : ℕ → (ℕ → Bool) → (ℕ → Bool) → Bool
 everywhere n t u = all (λ v. Bool·beq (t v) (u v)) (count n 0)
 
 below-all : (n : ℕ) (t u : ℕ → Bool) → everywhere n t u ≡ true → (v : ℕ) → v < n → t v ≡ u v
-below-all n t u h v l = beq-same (t v) (u v) (all-at (λ v. Bool·beq (t v) (u v)) (count n 0) v (elem-count v n 0 zero-le (omega arith)) h)
+below-all n t u h v l = beq-same (t v) (u v) (all-below n (λ v. Bool·beq (t v) (u v)) h v l)
 
 -- the numbers of XC1..XC5 that are speech, as the code tests them
 pub up-number : (v : ℕ) → v < 32 → elem v (speechXc Uplink) ≡ cond (eqb (v / 4) 0) true (eqb (v / 8) 1)

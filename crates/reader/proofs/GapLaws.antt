@@ -4,10 +4,11 @@ use mathlib.Core.Path.{_≡_, refl, sym, _∙_, ap, subst}
 use mathlib.Core.Logic.{inl, inr, by-cases}
 use mathlib.Core.Bool.{Bool, true, false, not, _&&_}
 use mathlib.Core.List.{List, [], _∷_}
-use Prim.Native.Nat.{ℕ, zero, suc, _+_, _*_, _≤_, _<_, zero-le}
+use Prim.Native.Nat.{ℕ, _+_, _*_, _≤_, _<_}
 use native.Mathlib.Omega.{arith}
 use native.Mathlib.Decide.{ℕ-discrete, decLt}
-use borrow.Author.Tests.{not-true, lt-ltb}
+use borrow.Author.Tests.{not-true, lt-ltb, eqb-true}
+use lib.Dec.{eqb}
 use lib.ListN.{getD}
 use Rattle.reading.specs.Reading.{Starts}
 use Rattle.bits.specs.Bit.{count}
@@ -20,8 +21,7 @@ use Rattle.channel.specs.Places.{elem, zerosOf, onesOf}
 use Rattle.channel.specs.Coding.{Word, all, fixed}
 use Rattle.channel.specs.Verdict.{starts}
 use Rattle.channel.specs.Frames.{Capture, Frame, rules}
-use Rattle.channel.proofs.BoolLaws.{never, and-l, and-r, all-at, zero-at, one-at}
-use Rattle.channel.proofs.DLaws.{elem-count}
+use Rattle.channel.proofs.BoolLaws.{never, and-l, and-r, all-at, all-below, zero-at, one-at}
 use Rattle.channel.proofs.FrameLaws.{no-740, body-low}
 use Rattle.item.specs.declared.ItemKind.the-variants as of
 use Rattle.item.specs.declared.Item.{Item}
@@ -33,15 +33,7 @@ abbrev pub sync : List ℕ
 sync = 32 ∷ 48 ∷ 64 ∷ 80 ∷ 96 ∷ 112 ∷ 128 ∷ 144 ∷ []
 
 pub sync-place : (j : ℕ) → j < 8 → getD sync j 0 ≡ 16 * j + 32
-sync-place zero h = refl
-sync-place (suc zero) h = refl
-sync-place (suc (suc zero)) h = refl
-sync-place (suc (suc (suc zero))) h = refl
-sync-place (suc (suc (suc (suc zero)))) h = refl
-sync-place (suc (suc (suc (suc (suc zero))))) h = refl
-sync-place (suc (suc (suc (suc (suc (suc zero)))))) h = refl
-sync-place (suc (suc (suc (suc (suc (suc (suc zero))))))) h = refl
-sync-place (suc (suc (suc (suc (suc (suc (suc (suc j)))))))) h = absurd (omega arith)
+sync-place j h = eqb-true (getD sync j 0) (16 * j + 32) (all-below 8 (λ j. eqb (getD sync j 0) (16 * j + 32)) refl j h)
 
 -- a pattern begins with eight zeros and a one, and has those ones
 abbrev synced : Pattern → Bool
@@ -58,15 +50,7 @@ starts-synced g Amr670 h = refl
 starts-synced g Amr740 h = absurd (no-740 g h)
 
 in-sync : (j : ℕ) → j < 8 → elem (getD sync j 0) sync ≡ true
-in-sync zero h = refl
-in-sync (suc zero) h = refl
-in-sync (suc (suc zero)) h = refl
-in-sync (suc (suc (suc zero))) h = refl
-in-sync (suc (suc (suc (suc zero)))) h = refl
-in-sync (suc (suc (suc (suc (suc zero))))) h = refl
-in-sync (suc (suc (suc (suc (suc (suc zero)))))) h = refl
-in-sync (suc (suc (suc (suc (suc (suc (suc zero))))))) h = refl
-in-sync (suc (suc (suc (suc (suc (suc (suc (suc j)))))))) h = absurd (omega arith)
+in-sync = all-below 8 (λ j. elem (getD sync j 0) sync) refl
 
 module _ (w : Capture) (q : ℕ) where
   -- a frame that starts a run at q begins so
@@ -83,7 +67,7 @@ module _ (w : Capture) (q : ℕ) where
     first-zero i l =
         let e : all (λ i. elem i (zerosOf (patternOf (f .kind)))) (count 8 0) ≡ true = and-l _ _ (starts-synced (f .body) (f .kind) (h .allows)) in
         sym (bit-of i (omega arith))
-        ∙ zero-at (f .body) (patternOf (f .kind)) i (all-at (λ i. elem i (zerosOf (patternOf (f .kind)))) (count 8 0) i (elem-count i 8 0 zero-le (omega arith)) e) holds
+        ∙ zero-at (f .body) (patternOf (f .kind)) i (all-below 8 (λ i. elem i (zerosOf (patternOf (f .kind)))) e i l) holds
 
     then-ones : elem 8 (onesOf (patternOf (f .kind))) && all (λ i. elem i (onesOf (patternOf (f .kind)))) sync ≡ true
     then-ones = and-r (all (λ i. elem i (zerosOf (patternOf (f .kind)))) (count 8 0)) _ (starts-synced (f .body) (f .kind) (h .allows))

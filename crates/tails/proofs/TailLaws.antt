@@ -4,7 +4,7 @@ use mathlib.Core.Path.{_≡_, refl, sym, subst}
 use mathlib.Core.Logic.{_⊎_, by-cases}
 use mathlib.Core.Bool.{Bool, true, false, _&&_, cond}
 use mathlib.Core.List.{List}
-use Prim.Native.Nat.{ℕ, _+_, _*_, _-_, _/_, _%_, _^_, _<_, _≤_, zero-le}
+use Prim.Native.Nat.{ℕ, _+_, _*_, _-_, _/_, _%_, _^_, _<_, _≤_}
 use native.Mathlib.Omega.{arith}
 use native.Mathlib.Decide.{decLt}
 use borrow.Author.Tests.{ltb-true, eq-eqb, lt-ltb, le-leb, eqb-true, leb-true}
@@ -15,17 +15,12 @@ use Rattle.bits.specs.Bit.{bitAt, count}
 use Rattle.channel.specs.declared.Terms.{Terms}
 use Rattle.channel.specs.Coding.{all}
 use Rattle.channel.specs.Frames.{captureOf, Tail}
-use Rattle.channel.proofs.BoolLaws.{ands, all-at}
-use Rattle.channel.proofs.DLaws.{elem-count}
+use Rattle.channel.proofs.BoolLaws.{ands, all-below}
 use Rattle.tails.specs.Zero.{FirstZero}
-
--- a fact at every number below n, by one test that is computed
-below : (n : ℕ) (t : ℕ → Bool) → all t (count n 0) ≡ true → (v : ℕ) → v < n → t v ≡ true
-below n t h v l = all-at t (count n 0) v (elem-count v n 0 zero-le (omega arith)) h
 
 -- 256 moved down by fewer than eight bits is something
 pub shifted-positive : (r : ℕ) → r < 8 → 0 < 256 / 2 ^ r
-shifted-positive r l = ltb-true 0 (256 / 2 ^ r) (below 8 (λ r. ltb 0 (256 / 2 ^ r)) refl r l)
+shifted-positive r l = ltb-true 0 (256 / 2 ^ r) (all-below 8 (λ r. ltb 0 (256 / 2 ^ r)) refl r l)
 
 -- the first zero as the code counts it
 abbrev pub counted : ℕ → ℕ → ℕ
@@ -49,7 +44,7 @@ module _ (x r k : ℕ) (t : isFirst x r k ≡ true) where
 
   one : (j : ℕ) → r ≤ j → j < k → k ≤ 8 → x / 2 ^ (7 - j) % 2 ≡ 1
   one j a b l =
-      let h = below 8 (λ j. cond (leb r j && ltb j k) (eqb (x / 2 ^ (7 - j) % 2) 1) true) (search ands) j (omega arith) in
+      let h = all-below 8 (λ j. cond (leb r j && ltb j k) (eqb (x / 2 ^ (7 - j) % 2) 1) true) (search ands) j (omega arith) in
       eqb-true (x / 2 ^ (7 - j) % 2) 1 (rw (le-leb r j a, lt-ltb j k b) at h)
 
   nil : k < 8 → x / 2 ^ (7 - k) % 2 ≡ 0
@@ -65,7 +60,7 @@ module _ (x r k : ℕ) (t : isFirst x r k ≡ true) where
 
 module _ (x r : ℕ) (byte : x < 256) (bit : r < 8) where
   tested : isFirst x r (counted x r) ≡ true
-  tested = below 8 (λ r. isFirst x r (counted x r)) (below 256 (λ x. all (λ r. isFirst x r (counted x r)) (count 8 0)) every x byte) r bit
+  tested = all-below 8 (λ r. isFirst x r (counted x r)) (all-below 256 (λ x. all (λ r. isFirst x r (counted x r)) (count 8 0)) every x byte) r bit
 
   pub counted-high : 24 ≤ leadingZeros 32 ((255 - x) % (256 / 2 ^ r))
   counted-high = high x r (counted x r) tested

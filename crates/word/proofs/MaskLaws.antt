@@ -16,8 +16,7 @@ use Rattle.bits.proofs.CountLaws.{map-count-split}
 use Rattle.channel.specs.Coding.{Word, all}
 use lib.ListN.{getD}
 use Rattle.channel.specs.Places.{elem}
-use Rattle.channel.proofs.BoolLaws.{all-at, and-l, and-r, and-both}
-use Rattle.channel.proofs.DLaws.{elem-count}
+use Rattle.channel.proofs.BoolLaws.{all-at, and-l, and-r, and-both, elem-count}
 use Rattle.word.specs.Words.{fieldAt, fourAt, Holds, FixedBy}
 
 -- a number and a bit behind it
