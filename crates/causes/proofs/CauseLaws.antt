@@ -34,7 +34,8 @@ use Rattle.channel.proofs.CutLaws.{control-cut, extended-cut}
 use Rattle.channel.specs.declared.Found.{Found}
 use Rattle.channel.specs.declared.Found.the-variants.{Is, Nothing}
 use Rattle.channel.specs.Record.{dBytes, wide, numberAt, dLength, recordOf}
-use Rattle.dbits.proofs.DBitLaws.{d-length, fromTop-bit, bytes-bit}
+use Rattle.dplaces.proofs.DPlaceLaws.{d-length}
+use Rattle.dbits.proofs.DBitLaws.{fromTop-bit, bytes-bit}
 use Rattle.record.specs.Built.{extendedPlaces}
 use Rattle.record.proofs.RecordLaws.{d-length-le, bytes-cut}
 use Rattle.record.proofs.BuiltLaws.{body-framed, ones-last, extended-top}

@@ -1,6 +1,4 @@
 -- The laws of this crate, for the crates above it.
 -- Assumes nothing.
 pub mod DBitLaws
-pub mod RunLaws
-pub mod PlanLaws
-pub mod BackLaws
+pub mod QuickLaws

@@ -25,7 +25,7 @@ pub enum Cell {
     Nothing,
 }
 
-// C6..C9 of HR speech, octet 20 bits 3 to 6: no table of `frame` or `dbits` has them.
+// C6..C9 of HR speech, octet 20 bits 3 to 6: no table of `frame` or `dplaces` has them.
 const C6_PLACES: [u8; 4] = [154, 155, 156, 157];
 
 // The index of the first entry equal to p, or the length where there is none.
@@ -126,9 +126,9 @@ fn d_name(k: Kind, i: usize) -> Cell
 fn d_cell(k: Kind, p: u8, other: Cell) -> Cell
     ensures { λ r. ⌜ r ≡ named (dPlaces k) (dName k) p other ⌝ }
 {
-    let all = dbits::table();
-    let from = dbits::d_from(k);
-    let to = from + dbits::d_count(k);
+    let all = dplaces::table();
+    let from = dplaces::d_from(k);
+    let to = from + dplaces::d_count(k);
     let i = index_in(&all[from..to], p);
     if i < to - from {
         return d_name(k, i);

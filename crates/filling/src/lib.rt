@@ -24,8 +24,8 @@ pub fn fill(s: &[u8], n: usize, t: Terms, c: Cursor, most: u64, buffer: &mut [u8
     let mut items: u64 = 0;
     let mut at: usize = 0;
     let mut cursor = c;
-    let table = dbits::table();
-    let mut plan = dbits::no_plans();
+    let table = dplaces::table();
+    let mut plan = plans::no_plans();
     let mut masks = frame::no_masks();
     while items < most {
         let p = cursor.position;

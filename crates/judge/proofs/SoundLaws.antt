@@ -12,7 +12,7 @@ use lib.ListN.{length, getD, take, drop, length-append, length-drop, take-append
 use lib.Seq.{drop-cons, take-all, take-at, getD-take, ext-getD, length-take-le}
 use Rattle.reading.specs.Reading.{frame}
 use Rattle.bits.specs.Bit.{bitAt}
-use Rattle.put.specs.Put.{putPlaces}
+use Rattle.scatter.specs.Scatter.{putPlaces}
 use Rattle.channel.specs.declared.Direction.{Direction}
 use Rattle.channel.specs.declared.Terms.{Terms}
 use Rattle.channel.specs.declared.Kind.{Kind}
@@ -30,8 +30,8 @@ use Rattle.item.specs.declared.ItemKind.the-variants as item-kind
 use Rattle.item.specs.declared.Item.{Item}
 use Rattle.item.specs.Item.{itemOf}
 use Rattle.channel.specs.Record.{dBytes, numberAt, dLength, sizeOf, recordOf}
-use Rattle.dbits.specs.Plan.{Made, Plans, MadeMore}
-use Rattle.dbits.proofs.PlanLaws.{made-of}
+use Rattle.plans.specs.Plan.{Made, Plans, MadeMore}
+use Rattle.plans.proofs.PlanLaws.{made-of}
 use Rattle.record.specs.Size.{sizeBy}
 use Rattle.record.specs.Built.{fixedOctets, extendedPlaces, withParities, octetsBy}
 use Rattle.record.proofs.RecordLaws.{four-bytes, record-length}

@@ -12,7 +12,7 @@ use Rattle.channel.specs.declared.Found.{Found}
 use Rattle.channel.specs.declared.Found.the-variants.{Is, Nothing}
 use Rattle.channel.specs.declared.Kind.the-variants.{Speech, Data, Om, Configuration, NoSpeech, Lower, Amr670, Amr740}
 use Rattle.channel.specs.Frames.{Frame}
-use Rattle.dbits.specs.Plan.{Made, Plans}
+use Rattle.plans.specs.Plan.{Made, Plans}
 use Rattle.item.specs.declared.ItemKind.the-variants as item-kind
 use Rattle.item.specs.declared.Item.{Item}
 use Rattle.item.specs.Item.{frameOf}

@@ -7,7 +7,7 @@ ghost use lib.ListN.{length};
 ghost use Rattle.bits.specs.Bit.{bitAt};
 ghost use Rattle.channel.specs.Coding.{isBody};
 ghost use Rattle.channel.specs.declared.Kind.{Kind};
-ghost use Rattle.dbits.specs.Plan.{Made, Plans};
+ghost use Rattle.plans.specs.Plan.{Made, Plans};
 ghost use Rattle.frame.specs.Kept.{Kept};
 ghost use Rattle.item.specs.Item.{itemOf, cursorOf};
 ghost use Rattle.channel.specs.Record.{sizeOf, recordOf};
@@ -106,7 +106,7 @@ pub fn record_by(part: &[u8], table: &[u8], plan: &mut [u32]) -> Record
             if part.len() < record::size(ItemKind::Frame(k)) {
                 return unsound();
             }
-            dbits::ready(plan, table, k);
+            plans::ready(plan, table, k);
             let octets = octets::octets_by(part, k, table, plan);
             let start = record::number_at(part, 1) as usize;
             let tail = record::number_at(part, 5) as usize;

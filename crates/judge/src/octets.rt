@@ -4,10 +4,10 @@ ghost use Prim.Native.Nat.{_+_, _≤_, _<_};
 ghost use lib.ListN.{length, getD, drop};
 ghost use Rattle.bits.specs.Bit.{bitAt};
 ghost use Rattle.word.specs.Below.{Below};
-ghost use Rattle.put.specs.Put.{putPlaces};
+ghost use Rattle.scatter.specs.Scatter.{putPlaces};
 ghost use Rattle.channel.specs.Kinds.{patternOf};
 ghost use Rattle.channel.specs.Control.{controlPlaces};
-ghost use Rattle.dbits.specs.Plan.{Made};
+ghost use Rattle.plans.specs.Plan.{Made};
 ghost use Rattle.channel.specs.Record.{dLength};
 ghost use Rattle.record.specs.Built.{fixedOctets, extendedPlaces, withParity, withC5, withXc6, withParities, octetsBy};
 use channel::Kind;
@@ -35,14 +35,14 @@ fn with_control(o: [u8; 20], k: Kind, control: &[u8]) -> [u8; 20]
     ensures { λ r. ⌜ r ≡ putPlaces o (controlPlaces k) (bitAt (now (control .entry))) 0 ⌝ }
 {
     match k {
-        Kind::Speech => put::at_places(o, &places::SPEECH_CONTROL, control),
-        Kind::Data => put::at_places(o, &places::HR_CONTROL, control),
-        Kind::Om => put::at_places(o, &places::HR_CONTROL, control),
-        Kind::Configuration => put::at_places(o, &places::HR_CONTROL, control),
-        Kind::NoSpeech => put::at_places(o, &places::LOW_C, control),
-        Kind::Lower => put::at_places(o, &places::LOW_C, control),
-        Kind::Amr670 => put::at_places(o, &places::AMR_C, control),
-        Kind::Amr740 => put::at_places(o, &places::AMR_C, control),
+        Kind::Speech => scatter::at_places(o, &places::SPEECH_CONTROL, control),
+        Kind::Data => scatter::at_places(o, &places::HR_CONTROL, control),
+        Kind::Om => scatter::at_places(o, &places::HR_CONTROL, control),
+        Kind::Configuration => scatter::at_places(o, &places::HR_CONTROL, control),
+        Kind::NoSpeech => scatter::at_places(o, &places::LOW_C, control),
+        Kind::Lower => scatter::at_places(o, &places::LOW_C, control),
+        Kind::Amr670 => scatter::at_places(o, &places::AMR_C, control),
+        Kind::Amr740 => scatter::at_places(o, &places::AMR_C, control),
     }
 }
 
@@ -52,8 +52,8 @@ fn with_extended(o: [u8; 20], k: Kind, extended: &[u8]) -> [u8; 20]
     ensures { λ r. ⌜ r ≡ putPlaces o (extendedPlaces k) (bitAt (now (extended .entry))) 0 ⌝ }
 {
     match kinds::number(k) {
-        1 => put::at_places(o, &places::SPEECH_EXTENDED, extended),
-        3 => put::at_places(o, &places::XC1_TO_5, extended),
+        1 => scatter::at_places(o, &places::SPEECH_EXTENDED, extended),
+        3 => scatter::at_places(o, &places::XC1_TO_5, extended),
         _ => o,
     }
 }
@@ -102,6 +102,6 @@ pub fn octets_by(part: &[u8], k: Kind, table: &[u8], plan: &[u32]) -> [u8; 20]
     let fixed = fixed(k);
     let coded = with_control(fixed, k, &part[9..10]);
     let extended = with_extended(coded, k, &part[10..11]);
-    let full = dbits::with_d(extended, k, &part[12..], table, plan);
+    let full = dput::with_d(extended, k, &part[12..], table, plan);
     with_parities(full, k)
 }

@@ -1,27 +1,25 @@
--- Neighbouring bits put at once: a run of bits inside one byte, a byte whole, and bits put run by run.
+-- Neighbouring bits put at once: a run of bits inside one byte.
 -- Assumes nothing.
-use mathlib.Core.Path.{_≡_, refl, ap, sym, _∙_}
+use mathlib.Core.Path.{_≡_, ap, sym, _∙_}
 use mathlib.Core.Bool.{Bool, true, false}
 use mathlib.Core.Logic.{by-cases}
-use mathlib.Core.List.{List, [], _∷_, _++_, map}
-use Prim.Native.Nat.{ℕ, zero, suc, _+_, _*_, _/_, _%_, _-_, _^_, _<_, _≤_}
-use native.Mathlib.Nat.{mod-lt, mod-eq-of-lt, pow-suc, mul-assoc, mul-comm, add-mul, add-zero, zero-add, sub-zero}
-use borrow.Author.Count.{below-more}
+use mathlib.Core.List.{List, [], _∷_, map}
+use Prim.Native.Nat.{ℕ, suc, _+_, _*_, _/_, _%_, _-_, _^_, _<_, _≤_}
+use native.Mathlib.Nat.{mod-lt, mod-eq-of-lt, pow-suc, mul-assoc, mul-comm, add-mul, zero-add}
 use borrow.Author.Tests.{lt-ltb}
-use native.Mathlib.Decide.{decLt, ℕ-discrete}
+use native.Mathlib.Decide.{decLt}
 use native.Mathlib.Omega.{arith}
 use lib.Arith.{digits-lt}
 use lib.Bits.{bitAnd, and-high}
-use lib.Dec.{eqb, lit<}
-use lib.ListN.{length, getD, set, drop, replicate, length-set}
+use lib.Dec.{eqb}
+use lib.ListN.{length, getD, set, length-set}
 use lib.Pow.{pow-pos, pow-add, shr-lt, shl-shr, shr-shr, shr-le, high, low, split, mod-pow-add, mod-mod-pow}
-use lib.Seq.{drop-cons, getD-set-same, getD-set-other, set-getD, set-set}
+use lib.Seq.{getD-set-same, set-getD, set-set}
 use Rattle.bits.specs.Bit.{bitAt, toN, number, numberFrom, count, octetOf, bitsFrom}
 use Rattle.bits.proofs.BitLaws.{number-from, rebuilt, octet-whole, octet-bit, byte-bit}
-use Rattle.bits.proofs.CountLaws.{length-count, length-map-count, map-count-split, map-count-same}
-use Rattle.put.specs.Put.{putRun, Shows, RunAt, putPlaces}
+use Rattle.bits.proofs.CountLaws.{length-map-count}
+use Rattle.put.specs.Put.{putRun, Shows}
 use Rattle.bits.specs.Put.{putIn, putBit, putBits}
-use Rattle.put.proofs.PutLaws.{puts-append, places-append, places-run}
 
 module _ (x a r v : ℕ) (b : Bool) (fits : a + suc r ≤ 8) where
   abbrev k : ℕ
@@ -154,14 +152,6 @@ top-put s p c x g a l i h bits =
     run-put (map g (count c a)) s (p / 8) (p % 8) (omega arith) i in
     sym (rw (e, n, top-number g a c x (omega arith) h bits) at run)
 
--- a byte put whole
-whole-put : (s : List ℕ) (i x : ℕ) (g : ℕ → Bool) (a : ℕ) → i < length s → getD s i 0 < 256 → x < 256 → Shows x g a → set s i x ≡ putBits s (8 * i) (map g (count 8 a))
-whole-put s i x g a l y h bits =
-    let d : 8 * i / 8 ≡ i = omega arith in
-    let m : 8 * i % 8 ≡ 0 = omega arith in
-    let v : putRun (getD s i 0) 0 8 (x / 2 ^ 0) ≡ x = omega arith in
-    rw (d, m, v) at (top-put s (8 * i) 8 x g a (omega arith) (rw d l) h bits)
-
 -- eight bits of two neighbours
 pub pair-shows : (o : List ℕ) (i r a b x : ℕ) → r ≤ 8 → b < 256 → x ≡ (a * 256 + b) / 2 ^ r % 256 → getD o i 0 ≡ a → getD o (i + 1) 0 ≡ b → Shows x (bitAt o) (8 * (i + 1) - r)
 pair-shows o i r a b x l h e ea eb j m =
@@ -188,52 +178,6 @@ pub zeros-show : (a : ℕ) → Shows 0 (λ _. false) a
 unfolding octetOf
 zeros-show a j l = octet-bit (λ _. false) 0 j l
 
--- what the bytes become when the bits from x on, of k that begin at p, are put
-abbrev pub left : (ℕ → Bool) → List ℕ → ℕ → ℕ → ℕ → List ℕ
-left g s p k x = putBits s (p + x) (map g (count (k - x) x))
-
-module _ (g : ℕ → Bool) (s : List ℕ) (p k : ℕ) where
-  left-all : left g s p k 0 ≡ putBits s p (map g (count k 0))
-  left-all = rw (add-zero p, sub-zero k)
-
-  left-next : (x c : ℕ) → x + c ≤ k → left g s p k x ≡ left g (putBits s (p + x) (map g (count c x))) p k (x + c)
-  left-next x c l =
-      let e : k - x ≡ c + (k - (x + c)) = omega arith in
-      let f : p + x + c ≡ p + (x + c) = omega arith in
-      rw (e, map-count-split g c (k - (x + c)) x, puts-append (map g (count c x)) (map g (count (k - (x + c)) (x + c))) s (p + x), length-map-count g c x, f)
-
-  left-end : left g s p k k ≡ s
-  unfolding putBits
-  left-end = let e : k - k ≡ 0 = omega arith in rw e
-
-  -- a run put, of the bits that were left
-  turn-top : (x c : ℕ) (t : List ℕ) → x + c ≤ k → t ≡ putBits s (p + x) (map g (count c x)) → left g t p k (x + c) ≡ left g s p k x
-  turn-top x c t l e = rw e (sym (left-next x c l))
-
-  -- a byte put whole, of the bits that were left
-  pub turn-whole : (x i v : ℕ) → p + x ≡ 8 * i → x + 8 ≤ k → i < length s → getD s i 0 < 256 → v < 256 → Shows v g x → left g (set s i v) p k (x + 8) ≡ left g s p k x
-  turn-whole x i v at l inside y h bits = turn-top x 8 (set s i v) l (rw at (whole-put s i v g x inside y h bits))
-
--- a first run, bytes put whole, and a last run are all the bits
-pub runs-all : (g : ℕ → Bool) (s t u v : List ℕ) (p k first x c q : ℕ) → first ≤ k → t ≡ putBits s p (map g (count first 0)) → left g u p k x ≡ left g t p k first
-    → q ≡ p + x → v ≡ putBits u q (map g (count c x)) → x + c ≡ k → v ≡ putBits s p (map g (count k 0))
-runs-all g s t u v p k first x c q l et eu at ev all =
-    let begun : left g t p k (0 + first) ≡ left g s p k 0 = turn-top g s p k 0 first t (omega arith) (rw (add-zero p) et) in
-    let ended : left g v p k k ≡ left g u p k x = rw all at (turn-top g u p k x c v (omega arith) (rw at at ev)) in
-    sym (left-end g v p k) ∙ ended ∙ eu ∙ rw (zero-add first) at begun ∙ left-all g s p k
-
--- bytes stay bytes
-pub set-bytes : (s : List ℕ) (i v : ℕ) → ((m : ℕ) → getD s m 0 < 256) → i < length s → v < 256 → (m : ℕ) → getD (set s i v) m 0 < 256
-set-bytes s i v h l hv m =
-    by-cases (ℕ-discrete m i)
-    (λ (e : m ≡ i). rw (e, getD-set-same s i v 0 l) hv)
-    (λ (e : ¬ (m ≡ i)). rw (getD-set-other s i m v 0 e) (h m))
-
--- ones as bits by their numbers
-pub ones-are : (t a : ℕ) → replicate t true ≡ map (λ _. true) (count t a)
-ones-are zero a = refl
-ones-are (suc t) a = ap (λ (bs : List Bool). true ∷ bs) (ones-are t (suc a))
-
 -- a byte by itself
 pub byte-alone : (s : List ℕ) (i k : ℕ) → k < 8 → bitAt (getD s i 0 ∷ []) k ≡ bitAt s (8 * i + k)
 byte-alone s i k l =
@@ -242,67 +186,3 @@ byte-alone s i k l =
     let d : (8 * i + k) / 8 ≡ i = omega arith in
     let e : (8 * i + k) % 8 ≡ k = omega arith in
     rw (d, e) (ap (λ (n : ℕ). eqb (getD (getD s i 0 ∷ []) n 0 / 2 ^ (7 - k % 8) % 2) 1) a ∙ rw b)
-
--- so many places the run that begins at number j may have
-abbrev pub Room : List ℕ → ℕ → ℕ → Type 0
-Room ps j most = (0 < most) × (j + most ≤ length ps) × (getD ps j 0 % 8 + most ≤ 8) × (j % 8 + most ≤ 8)
-
-sub-pos : {a b : ℕ} → a < b → 0 < b - a
-sub-pos l = omega arith
-
-least-is : (a b r : ℕ) → 0 < a → 0 < b → r ≡ a - (a - b) → (0 < r) × (r ≤ a) × (r ≤ b)
-least-is a b r h l e = (omega arith, omega arith, omega arith)
-
-room-of : (p q n j x most : ℕ) → p < 8 → q < 8 → j < n → (0 < x) × (x ≤ 8 - p) × (x ≤ 8 - q) → (0 < most) × (most ≤ x) × (most ≤ n - j) → (0 < most) × (j + most ≤ n) × (p + most ≤ 8) × (q + most ≤ 8)
-room-of p q n j x most hp hq l s t = (t .0, omega arith, omega arith, omega arith)
-
-pub room-is : (ps : List ℕ) (j x most : ℕ) → j < length ps → x ≡ (8 - getD ps j 0 % 8) - ((8 - getD ps j 0 % 8) - (8 - j % 8)) → most ≡ x - (x - (length ps - j)) → Room ps j most
-room-is ps j x most l ex em =
-    let hp = mod-lt (getD ps j 0) (lit< {m = 0} {n = 8} tt) in
-    let hq = mod-lt j (lit< {m = 0} {n = 8} tt) in
-    let s = least-is (8 - getD ps j 0 % 8) (8 - j % 8) x (sub-pos hp) (sub-pos hq) ex in
-    room-of (getD ps j 0 % 8) (j % 8) (length ps) j x most hp hq l s (least-is x (length ps - j) most (s .0) (sub-pos l) em)
-
-pub run-first : (ps : List ℕ) (j : ℕ) → j < length ps → RunAt ps j 1
-run-first ps j l =
-    record {
-      some = omega arith;
-      within = omega arith;
-      octet = omega arith;
-      byte = omega arith;
-      follow = λ i m. let z : i ≡ 0 = omega arith in rw (z, add-zero j, add-zero (getD ps j 0));
-    }
-
-pub run-more : (ps : List ℕ) (j r most : ℕ) → RunAt ps j r → Room ps j most → r < most → getD ps (j + r) 0 ≡ getD ps j 0 + r → RunAt ps j (r + 1)
-run-more ps j r most run room l e =
-    record {
-      some = omega arith;
-      within = omega arith;
-      octet = omega arith;
-      byte = omega arith;
-      follow = below-more (λ i. getD ps (j + i) 0 ≡ getD ps j 0 + i) r (run .follow) e;
-    }
-
--- places that follow each other are a run
-run-drop : (r : ℕ) (ps : List ℕ) (j p : ℕ) → j + r ≤ length ps → ((i : ℕ) → i < r → getD ps (j + i) 0 ≡ p + i) → drop j ps ≡ count r p ++ drop (j + r) ps
-run-drop zero ps j p l e = rw (add-zero j)
-run-drop (suc r) ps j p l e =
-    let first : getD ps j 0 ≡ p = ap (λ (n : ℕ). getD ps n 0) (sym (add-zero j)) ∙ e 0 (omega arith) ∙ add-zero p in
-    let f : j + suc r ≡ suc j + r = omega arith in
-    let rest : drop (suc j) ps ≡ count r (suc p) ++ drop (suc j + r) ps = run-drop r ps (suc j) (suc p) (omega arith) (λ i m.
-    let a : suc j + i ≡ j + suc i = omega arith in
-    let b : p + suc i ≡ suc p + i = omega arith in
-    ap (λ (n : ℕ). getD ps n 0) a ∙ e (suc i) (omega arith) ∙ b) in
-    drop-cons ps j 0 (omega arith) ∙ rw (first, rest, f)
-
--- a turn of the loop over places, by the run that begins at place j
-pub run-turn : (s t ps from : List ℕ) (j r : ℕ) → RunAt ps j r → t ≡ putBits s (getD ps j 0) (map (bitAt (getD from (j / 8) 0 ∷ [])) (count r (j % 8)))
-    → putPlaces t (drop (j + r) ps) (bitAt from) (j + r) ≡ putPlaces s (drop j ps) (bitAt from) j
-run-turn s t ps from j r run e =
-    let p = getD ps j 0 in
-    let same : map (bitAt (getD from (j / 8) 0 ∷ [])) (count r (j % 8)) ≡ map (bitAt from) (count r j) =
-    map-count-same (bitAt (getD from (j / 8) 0 ∷ [])) (bitAt from) r (j % 8) j (λ k l.
-    let f : 8 * (j / 8) + (j % 8 + k) ≡ j + k = omega arith in
-    byte-alone from (j / 8) (j % 8 + k) (omega (arith, run .byte)) ∙ ap (bitAt from) f) in
-    let whole : t ≡ putPlaces s (count r p) (bitAt from) j = e ∙ ap (putBits s p) same ∙ sym (places-run r s p (bitAt from) j) in
-    rw (whole, run-drop r ps j p (run .within) (run .follow), places-append (count r p) (drop (j + r) ps) s (bitAt from) j, length-count r p)

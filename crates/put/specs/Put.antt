@@ -1,12 +1,9 @@
--- How bits are put by runs, at a bit and at places.
+-- How bits are put by runs inside one byte.
 -- Assumes nothing.
 use mathlib.Core.Path.{_≡_}
 use mathlib.Core.Bool.{Bool}
-use mathlib.Core.List.{List, [], _∷_}
-use Prim.Native.Nat.{ℕ, suc, _+_, _*_, _-_, _/_, _%_, _^_, _<_, _≤_}
-use lib.ListN.{length, getD}
+use Prim.Native.Nat.{ℕ, _+_, _*_, _-_, _/_, _%_, _^_, _<_}
 use Rattle.bits.specs.Bit.{toN}
-use Rattle.bits.specs.Put.{putBit}
 
 -- a byte with its r bits from bit a on made those of v
 abbrev pub putRun : ℕ → ℕ → ℕ → ℕ → ℕ
@@ -15,16 +12,3 @@ putRun x a r v = x / 2 ^ (8 - a) * 2 ^ (8 - a) + v * 2 ^ (8 - a - r) + x % 2 ^ (
 -- the eight bits of a byte are g a, g (a + 1), ..
 abbrev pub Shows : ℕ → (ℕ → Bool) → ℕ → Type 0
 Shows x g a = (j : ℕ) → j < 8 → x / 2 ^ (7 - j) % 2 ≡ toN (g (a + j))
-
--- r places, from number j of a list on, that follow each other in one octet and get bits of one byte
-pub record RunAt (ps : List ℕ) (j r : ℕ) : Type 0 where
-  pub some : 0 < r
-  pub within : j + r ≤ length ps
-  pub octet : getD ps j 0 % 8 + r ≤ 8
-  pub byte : j % 8 + r ≤ 8
-  pub follow : (i : ℕ) → i < r → getD ps (j + i) 0 ≡ getD ps j 0 + i
-
--- the bytes with bits h i, h (i + 1), .. put at some places, one bit at each
-unfoldable pub putPlaces : List ℕ → List ℕ → (ℕ → Bool) → ℕ → List ℕ
-putPlaces s [] h i = s
-putPlaces s (p ∷ ps) h i = putPlaces (putBit s p (h i)) ps h (suc i)

@@ -15,8 +15,9 @@ use Rattle.bits.specs.Bit.{bitAt, toN, number, twenty, octetOf}
 use Rattle.bits.proofs.BitLaws.{toN-lt, toN-one, length-twenty}
 use Rattle.word.specs.Below.{Below}
 use Rattle.frame.proofs.CodingLaws.{listed-below}
-use Rattle.put.specs.Put.{putPlaces}
-use Rattle.put.proofs.PutLaws.{put-at, length-put, length-places, own-kept, Own, places-kept, places-put}
+use Rattle.scatter.specs.Scatter.{putPlaces}
+use Rattle.put.proofs.PutLaws.{put-at, length-put, own-kept}
+use Rattle.scatter.proofs.PlaceLaws.{length-places, Own, places-kept, places-put}
 use Rattle.channel.specs.declared.Direction.{Direction}
 use Rattle.channel.specs.declared.Pattern.{Pattern}
 use Rattle.channel.specs.declared.Pattern.the-variants.{Hr, Low, P670, P740}
@@ -29,7 +30,8 @@ use Rattle.channel.specs.Control.{fromTop, controlPlaces, control, extended}
 use Rattle.channel.proofs.BoolLaws.{ands, and-both, all-at, zero-at, one-at}
 use Rattle.channel.proofs.DLaws.{d-rule}
 use Rattle.channel.specs.Record.{dBytes, dLength}
-use Rattle.dbits.proofs.DBitLaws.{d-length, fromTop-bit, dBytes-bit, places-below}
+use Rattle.dplaces.proofs.DPlaceLaws.{d-length, places-below}
+use Rattle.dbits.proofs.DBitLaws.{fromTop-bit, dBytes-bit}
 use Rattle.record.specs.Built.{fixedOctets, extendedPlaces, withParity, withC5, withXc6, withParities, octetsBy}
 
 -- what coding says of the bits that a record does not hold: parities, and XC1..XC5 of an O&M frame

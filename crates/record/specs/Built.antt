@@ -6,7 +6,7 @@ use mathlib.Core.List.{List, [], _∷_, _++_}
 use Prim.Native.Nat.{ℕ}
 use lib.ListN.{take, getD}
 use Rattle.bits.specs.Bit.{bitAt, twenty}
-use Rattle.put.specs.Put.{putPlaces}
+use Rattle.scatter.specs.Scatter.{putPlaces}
 use Rattle.bits.specs.Put.{putBit}
 use Rattle.channel.specs.declared.Pattern.{Pattern}
 use Rattle.channel.specs.declared.Pattern.the-variants.{Hr}

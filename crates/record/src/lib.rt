@@ -11,7 +11,7 @@ ghost use Rattle.bits.specs.Bit.{bitAt};
 ghost use Rattle.channel.specs.Control.{control, extended};
 ghost use Rattle.channel.specs.Record.{dBytes, wide, numberAt, dLength, sizeOf, recordOf};
 ghost use Rattle.channel.specs.declared.Kind.{Kind};
-ghost use Rattle.dbits.specs.Plan.{Made, Plans};
+ghost use Rattle.plans.specs.Plan.{Made, Plans};
 ghost use Rattle.item.specs.Item.{itemOf};
 ghost use Rattle.record.specs.Size.{sizeBy};
 
@@ -19,7 +19,7 @@ ghost use Rattle.record.specs.Size.{sizeBy};
 fn d_length(k: Kind) -> usize
     ensures { λ r. ⌜ r ≡ dLength k ⌝ }
 {
-    (dbits::d_count(k) + 7) / 8
+    (dplaces::d_count(k) + 7) / 8
 }
 
 // How many bytes the record of an item has, by what the item is.
@@ -108,7 +108,7 @@ pub fn ready(plan: &mut [u32], table: &[u8], kind: ItemKind)
     ensures { λ _. ⌜ Plans (now (table .entry)) (now (plan .exit)) × ((k : Kind) → kind ≡ ItemKind.Frame k → Made (now (table .entry)) (now (plan .exit)) k) ⌝ }
 {
     match kind {
-        ItemKind::Frame(k) => dbits::ready(plan, table, k),
+        ItemKind::Frame(k) => plans::ready(plan, table, k),
         ItemKind::Gap => {}
     }
 }

@@ -2,7 +2,7 @@
 ghost use mathlib.Core.Path.{_≡_};
 ghost use Prim.Native.Nat.{_*_, _≤_};
 ghost use lib.ListN.{length};
-ghost use Rattle.dbits.specs.Plan.{Plans};
+ghost use Rattle.plans.specs.Plan.{Plans};
 ghost use Rattle.frame.specs.Kept.{Kept};
 ghost use Rattle.bits.specs.Put.{putBits};
 ghost use Rattle.channel.specs.Frames.{behind};
@@ -115,8 +115,8 @@ fn put_frame(buffer: &mut [u8], r: Record, k: Kind)
     let start = r.start;
     let octets = r.octets;
     let body = kinds::body(k);
-    put::body(buffer, start, octets, body);
-    put::tail(buffer, start + body, r.tail);
+    lay::body(buffer, start, octets, body);
+    lay::tail(buffer, start + body, r.tail);
 }
 
 // Puts the bits of every frame whose record is among those judged, all of which are taken.
@@ -152,8 +152,8 @@ pub fn write(records: &[u8], r: Request, buffer: &mut [u8]) -> Answer
         context: cursor.context as u8,
     };
     let mut masks = frame::no_masks();
-    let table = dbits::table();
-    let mut plan = dbits::no_plans();
+    let table = dplaces::table();
+    let mut plan = plans::no_plans();
     let judged = judge_all(
         records,
         call::terms_of(r.terms),

@@ -8,8 +8,9 @@ use lib.ListN.{drop, length-take}
 use Rattle.bits.specs.Bit.{bitAt}
 use Rattle.channel.specs.Coding.{bitsAt}
 use Rattle.channel.specs.Control.{fromTop}
-use Rattle.dbits.proofs.DBitLaws.{byte-of, part-below}
-use Rattle.dbits.proofs.PlanLaws.{eight-part}
+use Rattle.dbits.proofs.DBitLaws.{byte-of}
+use Rattle.scatter.proofs.PlaceLaws.{part-below}
+use Rattle.scatter.proofs.PlaceLaws.{eight-part}
 use borrow.Author.Needs.{needs}
 use Rattle.dbits.proofs.byte_at.Statement.{statement}
 use Rattle.dbits.proofs.byte_at.Tie as tie

@@ -9,8 +9,8 @@ use Rattle.bits.specs.Bit.{bitAt, count}
 use Rattle.channel.specs.Coding.{bitsAt}
 use Rattle.channel.specs.Control.{fromTop}
 use Rattle.channel.specs.Record.{dBytes}
-use Rattle.dbits.proofs.DBitLaws.{part-end, part-is, places-below, d-length, d-count-le, all-length}
-use Rattle.dbits.proofs.PlanLaws.{kind-le}
+use Rattle.dplaces.proofs.DPlaceLaws.{part-end, part-is, places-below, d-length, d-count-le, all-length}
+use Rattle.plans.proofs.PlanLaws.{kind-le}
 use borrow.Author.Needs.{needs}
 use Rattle.dbits.proofs.d_bytes.Statement.{statement}
 use Rattle.dbits.proofs.d_bytes.Tie as tie

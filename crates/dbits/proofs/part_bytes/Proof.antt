@@ -5,7 +5,7 @@ use mathlib.Core.List.{List}
 use Prim.Native.Nat.{ℕ, _+_, _-_, _/_}
 use native.Mathlib.Omega.{arith}
 use lib.ListN.{length, getD, set}
-use Rattle.dbits.proofs.PlanLaws.{all-quick, one-slow}
+use Rattle.dbits.proofs.QuickLaws.{all-quick, one-slow}
 use borrow.Author.Needs.{needs}
 use Rattle.dbits.proofs.part_bytes.Statement.{statement}
 use Rattle.dbits.proofs.part_bytes.Tie as tie

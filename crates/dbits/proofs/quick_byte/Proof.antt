@@ -4,7 +4,7 @@ use Prim.Native.Nat.{_+_, _*_, _%_}
 use native.Mathlib.Omega.{arith}
 use lib.Bits.{and-le-l}
 use lib.ListN.{getD}
-use Rattle.dbits.proofs.PlanLaws.{small-product}
+use Rattle.dbits.proofs.QuickLaws.{small-product}
 use borrow.Author.Needs.{needs}
 use Rattle.dbits.proofs.quick_byte.Statement.{statement}
 use Rattle.dbits.proofs.quick_byte.Tie as tie

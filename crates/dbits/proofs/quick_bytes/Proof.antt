@@ -7,7 +7,7 @@ use native.Mathlib.Omega.{arith}
 use lib.ListN.{drop, replicate, set}
 use Rattle.bits.specs.Bit.{count}
 use Rattle.bits.proofs.CountLaws.{fill-step}
-use Rattle.dbits.specs.Plan.{quickAt}
+use Rattle.plans.specs.Plan.{quickAt}
 use Rattle.dbits.proofs.quick_bytes.Statement.{statement}
 use Rattle.dbits.proofs.quick_bytes.Tie as tie
 

@@ -11,7 +11,7 @@ use Rattle.reading.proofs.FillLaws.{Filling, fill-start, fill-turn, length-tail
 use Rattle.channel.specs.Verdict.{Context}
 use Rattle.channel.specs.Frames.{captureOf, rules}
 use Rattle.channel.proofs.FrameLaws.{sound}
-use Rattle.dbits.specs.Plan.{Plans}
+use Rattle.plans.specs.Plan.{Plans}
 use Rattle.frame.specs.Kept.{Kept}
 use Rattle.item.specs.Item.{itemOf, cursorOf}
 use Rattle.channel.specs.Record.{sizeOf, recordOf}

@@ -5,7 +5,7 @@ use native.Mathlib.Omega.{arith}
 use lib.ListN.{length}
 use Rattle.channel.specs.Record.{dLength}
 use mathlib.Core.Path.{refl, sym, _∙_}
-use Rattle.dbits.proofs.PlanLaws.{made-of}
+use Rattle.plans.proofs.PlanLaws.{made-of}
 use Rattle.judge.proofs.SoundLaws.{record-frame, record-short, record-unknown, plan-for, plan-none}
 use borrow.Author.Needs.{needs}
 use Rattle.judge.proofs.record_by.Statement.{statement}

@@ -1,7 +1,7 @@
 -- `record::d_length` meets its contract.
 -- Assumes nothing.
 use native.Mathlib.Omega.{arith}
-use Rattle.dbits.proofs.DBitLaws.{d-count-le}
+use Rattle.dplaces.proofs.DPlaceLaws.{d-count-le}
 use borrow.Author.Needs.{needs}
 use Rattle.record.proofs.d_length.Statement.{statement}
 use Rattle.record.proofs.d_length.Tie as tie

@@ -6,7 +6,7 @@ use native.Mathlib.Omega.{arith}
 use Rattle.channel.specs.declared.Kind.{Kind}
 use Rattle.item.specs.declared.ItemKind.{ItemKind}
 use Rattle.item.specs.declared.ItemKind.the-variants as of
-use Rattle.dbits.proofs.PlanLaws.{made-of}
+use Rattle.plans.proofs.PlanLaws.{made-of}
 use borrow.Author.Needs.{needs}
 use Rattle.record.proofs.ready.Statement.{statement}
 use Rattle.record.proofs.ready.Tie as tie

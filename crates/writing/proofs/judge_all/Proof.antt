@@ -8,7 +8,7 @@ use lib.ListN.{length}
 use Rattle.reading.specs.Reading.{frame, over}
 use Rattle.reading.proofs.FillLaws.{tail-is, length-tail}
 use Rattle.channel.specs.Frames.{rules}
-use Rattle.dbits.specs.Plan.{Plans}
+use Rattle.plans.specs.Plan.{Plans}
 use Rattle.frame.specs.Kept.{Kept}
 use Rattle.item.specs.declared.Item.{Item}
 use Rattle.item.specs.Item.{itemOf, cursorOf}

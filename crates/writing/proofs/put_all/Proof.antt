@@ -10,7 +10,7 @@ use Rattle.reading.proofs.FillLaws.{tail-is, length-tail}
 use Rattle.channel.specs.declared.Terms.{Terms}
 use Rattle.channel.specs.Verdict.{Context}
 use Rattle.channel.specs.Frames.{Frame}
-use Rattle.dbits.specs.Plan.{Plans}
+use Rattle.plans.specs.Plan.{Plans}
 use Rattle.record.proofs.RecordLaws.{size-pos}
 use Rattle.judge.specs.Judged.{RecordBy, frameBy}
 use Rattle.judge.proofs.SoundLaws.{record-none, record-is}

@@ -5,7 +5,7 @@ use native.Mathlib.Omega.{arith}
 use borrow.Author.Needs.{needs}
 use lib.ListN.{length}
 use Rattle.channel.specs.Places.{dPlaces}
-use Rattle.dbits.proofs.DBitLaws.{part-end, part-is, d-length, d-count-le}
+use Rattle.dplaces.proofs.DPlaceLaws.{part-end, part-is, d-length, d-count-le}
 use Rattle.drawings.specs.Cells.{indexOf, dName}
 use Rattle.drawings.proofs.CellLaws.{named-in, named-out}
 use Rattle.drawings.proofs.cell.d_cell.Statement.{statement}

@@ -2,7 +2,7 @@
 -- Assumes nothing.
 use native.Mathlib.Omega.{arith}
 use Rattle.channel.specs.declared.Kind.the-variants.{Speech, Om}
-use Rattle.put.specs.Put.{putPlaces}
+use Rattle.scatter.specs.Scatter.{putPlaces}
 use Rattle.record.proofs.BuiltLaws.{extended-few, extended-below}
 use Rattle.judge.proofs.KindLaws.{extended-places-no}
 use borrow.Author.Needs.{needs}

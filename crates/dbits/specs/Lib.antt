@@ -1,3 +1,0 @@
-pub mod DBits
-pub mod Plan
-pub mod Back

@@ -1,0 +1,66 @@
+-- `entries::back_of` meets its contract: the parts do not run into each other.
+-- Assumes nothing.
+use mathlib.Core.Path.{_≡_}
+use Prim.Native.Nat.{ℕ, _-_, _^_, _≤_}
+use native.Mathlib.Omega.{arith}
+use lib.Pow.{pow-mono, pow-pos}
+use borrow.Author.Needs.{needs}
+use Rattle.entries.proofs.back_of.Statement.{statement}
+use Rattle.entries.proofs.back_of.Tie as tie
+
+-- a mask of some bits of an octet is a byte
+mask-small : (x y e r : ℕ) → x ≡ 2 ^ (8 - e) → y ≡ 2 ^ (8 - e - r) → x - y ≤ 255
+mask-small x y e r ex ey = omega (arith, ex, ey, pow-mono {i = 8 - e} {j = 8} (omega arith), pow-pos (8 - e - r))
+
+sub-weight : tie.Need-sub-weight
+sub-weight c = search needs
+
+weight-requires : tie.Need-weight-requires
+weight-requires c κs = search needs
+
+sub-weight-2 : tie.Need-sub-weight-2
+sub-weight-2 c = search needs
+
+sub-weight-3 : tie.Need-sub-weight-3
+sub-weight-3 c = search needs
+
+weight-requires-2 : tie.Need-weight-requires-2
+weight-requires-2 c κs = search needs
+
+sub-result : tie.Need-sub-result
+sub-result c = rw (c .weight2 .ensures, c .before .weight .ensures) (pow-mono (omega arith))
+
+mul-result : tie.Need-mul-result
+mul-result c = let small = mask-small (c .before .weight .result) (c .weight2 .result) (c .before .before .args .e) (c .before .before .args .r) (c .before .weight .ensures) (c .weight2 .ensures) in omega arith
+
+mul-result-2 : tie.Need-mul-result-2
+mul-result-2 c = search needs
+
+add-result : tie.Need-add-result
+add-result c = search needs
+
+cast-result : tie.Need-cast-result
+cast-result c = search needs
+
+add-result-2 : tie.Need-add-result-2
+add-result-2 c = let small = mask-small (c .before .weight .result) (c .weight2 .result) (c .before .before .args .e) (c .before .before .args .r) (c .before .weight .ensures) (c .weight2 .ensures) in omega arith
+
+returns : tie.Need-returns
+returns c = let small = mask-small (c .before .weight .result) (c .weight2 .result) (c .before .before .args .e) (c .before .before .args .r) (c .before .weight .ensures) (c .weight2 .ensures) in (rw (c .weight2 .ensures, c .before .weight .ensures), omega arith)
+
+pub back-of-spec : {M : Type 1} → statement M
+back-of-spec =
+    tie.close
+    (tie.spec
+    sub-weight
+    weight-requires
+    sub-weight-2
+    sub-weight-3
+    weight-requires-2
+    sub-result
+    mul-result
+    mul-result-2
+    add-result
+    cast-result
+    add-result-2
+    returns)

@@ -1,0 +1,12 @@
+-- `plans::no_plans` meets its contract: zeros hold no plan.
+-- Assumes nothing.
+use mathlib.Core.Path.{refl}
+use Rattle.plans.proofs.PlanLaws.{plans-none, zeros-none}
+use Rattle.plans.proofs.no_plans.Statement.{statement}
+use Rattle.plans.proofs.no_plans.Tie as tie
+
+returns : tie.Need-returns
+returns c = plans-none _ _ refl refl zeros-none
+
+pub no-plans-spec : {M : Type 1} → statement M
+no-plans-spec = tie.close (tie.spec returns)
