@@ -1,8 +1,4 @@
 // Lists the items of a capture: standard input is one byte of direction, then the capture, of which every bit counts.
-mod line;
-mod listing;
-mod page;
-
 use libc::STDIN_FILENO;
 use libc::STDOUT_FILENO;
 

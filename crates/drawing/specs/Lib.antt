@@ -1,0 +1,4 @@
+-- The definitions that the contracts of this crate cite.
+-- Assumes nothing.
+pub mod Names
+pub mod Drawing

@@ -1,4 +1,0 @@
--- The definitions that the contracts of this crate cite.
--- Assumes nothing.
-pub mod Line
-pub mod Listing

@@ -1,0 +1,5 @@
+-- The laws of this crate.
+-- Assumes nothing.
+pub mod RoomLaws
+pub mod PagingLaws
+pub mod ListLaws

@@ -1,0 +1,3 @@
+-- The laws of this crate.
+-- Assumes nothing.
+pub mod TextLaws
