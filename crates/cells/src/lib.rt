@@ -8,7 +8,8 @@ ghost use Rattle.channel.specs.Places.{dPlaces};
 ghost use Rattle.word.specs.Words.{FixedBy};
 ghost use Rattle.cells.specs.Cells.{indexOf, named, syncCell, xcCell, crcCell, besideCell, dName, tailCell, patternCell, cellOf};
 use channel::Kind;
-use frame::places;
+use coding::places;
+use masks::covered;
 
 // What a bit is called in the drawings: a fixed zero or one, C1.., XC1.., CRC2.., D1.., D'1.. (the second half of a data frame), T1.., T alone;
 // or nothing, if no table has its place.
@@ -25,7 +26,7 @@ pub enum Cell {
     Nothing,
 }
 
-// C6..C9 of HR speech, octet 20 bits 3 to 6: no table of `frame` or `dplaces` has them.
+// C6..C9 of HR speech, octet 20 bits 3 to 6: no table of `coding` or `dplaces` has them.
 const C6_PLACES: [u8; 4] = [154, 155, 156, 157];
 
 // The index of the first entry equal to p, or the length where there is none.
@@ -82,7 +83,7 @@ fn xc_cell(p: u8, other: Cell) -> Cell
 fn crc_cell(p: u8, other: Cell) -> Cell
     ensures { λ r. ⌜ r ≡ crcCell p other ⌝ }
 {
-    let covered = places::SPEECH_CRC;
+    let covered = covered::SPEECH_CRC;
     let i = index_in(&covered[44..47], p);
     if i < 3 {
         return Cell::Crc(2 - i);

@@ -26,7 +26,7 @@ pub fn fill(s: &[u8], n: usize, t: Terms, c: Cursor, most: u64, buffer: &mut [u8
     let mut cursor = c;
     let table = dplaces::table();
     let mut plan = plans::no_plans();
-    let mut masks = frame::no_masks();
+    let mut masks = masks::no_masks();
     while items < most {
         let p = cursor.position;
         if n <= p {

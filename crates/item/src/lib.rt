@@ -40,7 +40,7 @@ impl Cursor {
         match kind {
             ItemKind::Frame(k) => {
                 self.position = start + kinds::body(k) + length;
-                self.context = frame::after(octets, k, self.context);
+                self.context = verdict::after(octets, k, self.context);
                 self
             }
             ItemKind::Gap => {

@@ -8,7 +8,7 @@ ghost use Rattle.bits.specs.Bit.{bitAt};
 ghost use Rattle.channel.specs.Coding.{isBody};
 ghost use Rattle.channel.specs.declared.Kind.{Kind};
 ghost use Rattle.plans.specs.Plan.{Made, Plans};
-ghost use Rattle.frame.specs.Kept.{Kept};
+ghost use Rattle.masks.specs.Kept.{Kept};
 ghost use Rattle.item.specs.Item.{itemOf, cursorOf};
 ghost use Rattle.channel.specs.Record.{sizeOf, recordOf};
 ghost use Rattle.channel.specs.Sound.{soundNumber};
@@ -126,7 +126,7 @@ pub fn record_by(part: &[u8], table: &[u8], plan: &mut [u32]) -> Record
 fn is_kind(o: [u8; 20], t: Terms, k: Kind) -> bool
     ensures { λ r. ⌜ r ≡ isBody (t .direction) (bitAt o) k ⌝ }
 {
-    match frame::kind_of(o, t) {
+    match coding::kind_of(o, t) {
         Found::Is(j) => kinds::number(j) == kinds::number(k),
         Found::Nothing => false,
     }
@@ -203,7 +203,7 @@ pub fn number(r: Record, k: Kind, c: Cursor, bits: usize, masks: &mut [u64]) -> 
     if start != c.position {
         return 6;
     }
-    let due = frame::verdict_in(octets, k, c.context, masks);
+    let due = verdict::verdict_in(octets, k, c.context, masks);
     if verdict != due {
         return 6;
     }

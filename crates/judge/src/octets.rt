@@ -11,7 +11,7 @@ ghost use Rattle.plans.specs.Plan.{Made};
 ghost use Rattle.channel.specs.Record.{dLength};
 ghost use Rattle.record.specs.Built.{fixedOctets, extendedPlaces, withParity, withC5, withXc6, withParities, octetsBy};
 use channel::Kind;
-use frame::places;
+use coding::places;
 
 // The fixed bits of a kind's pattern, every other bit zero.
 fn fixed(k: Kind) -> [u8; 20]

@@ -12,7 +12,7 @@ use Rattle.reading.proofs.HarvestLaws.{filled-bytes, filled-stretch, filled-wit
 use Rattle.channel.specs.Verdict.{Context}
 use Rattle.channel.specs.Frames.{Capture, captureOf, Frame, rules}
 use Rattle.channel.proofs.FrameLaws.{sound}
-use Rattle.frame.proofs.VerdictLaws.{after-le}
+use Rattle.verdict.proofs.VerdictLaws.{after-le}
 use Rattle.channel.specs.Record.{recordOf, records}
 use Rattle.call.specs.declared.TermNumbers.{TermNumbers}
 use Rattle.call.specs.declared.CursorNumbers.{CursorNumbers}

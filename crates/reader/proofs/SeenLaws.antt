@@ -23,7 +23,7 @@ use Rattle.channel.proofs.BoolLaws.{never}
 use Rattle.channel.proofs.TailLaws.{tail-one}
 use Rattle.channel.proofs.FrameLaws.{one-body, body-high, uncut}
 use Rattle.channel.proofs.CutLaws.{allowed-by, verdict-cut}
-use Rattle.frame.specs.Found.{KindOf}
+use Rattle.coding.specs.Found.{KindOf}
 use Rattle.item.specs.declared.Item.{Item}
 use Rattle.item.specs.Item.{frameOf}
 use Rattle.reader.specs.Seen.{gapOf, octetsAt, Seen}

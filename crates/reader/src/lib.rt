@@ -3,7 +3,7 @@ ghost use mathlib.Core.Path.{_≡_};
 ghost use Prim.Native.Nat.{_+_, _*_, _<_, _≤_};
 ghost use lib.ListN.{length};
 ghost use Rattle.channel.specs.Frames.{captureOf};
-ghost use Rattle.frame.specs.Kept.{Kept};
+ghost use Rattle.masks.specs.Kept.{Kept};
 ghost use Rattle.item.specs.Item.{cursorOf};
 ghost use Rattle.reader.specs.Seen.{gapOf, Seen, Starting, GapEnd, ItemAt};
 use channel::Found;
@@ -33,13 +33,13 @@ fn frame_at(s: &[u8], n: usize, t: Terms, p: usize, x: u8, masks: &mut [u64]) ->
 {
     let d = t.direction;
     let o = bits::octets(s, n, p);
-    match frame::kind_of(o, t) {
+    match coding::kind_of(o, t) {
         Found::Is(k) => {
             let behind = p + kinds::body(k);
             if n < behind {
                 return gap(p, 0);
             }
-            let verdict = frame::verdict_in(o, k, x, masks);
+            let verdict = verdict::verdict_in(o, k, x, masks);
             if !kinds::allowed_in(k, x, verdict) {
                 return gap(p, 0);
             }

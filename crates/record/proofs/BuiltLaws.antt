@@ -14,7 +14,7 @@ use lib.Seq.{getD-take}
 use Rattle.bits.specs.Bit.{bitAt, toN, number, twenty, octetOf}
 use Rattle.bits.proofs.BitLaws.{toN-lt, toN-one, length-twenty}
 use Rattle.word.specs.Below.{Below}
-use Rattle.frame.proofs.CodingLaws.{listed-below}
+use Rattle.word.proofs.BelowLaws.{listed-below}
 use Rattle.scatter.specs.Scatter.{putPlaces}
 use Rattle.put.proofs.PutLaws.{put-at, length-put, own-kept}
 use Rattle.scatter.proofs.PlaceLaws.{length-places, Own, places-kept, places-put}

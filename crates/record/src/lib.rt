@@ -1,6 +1,6 @@
 // The record of an item, written into a lent part of a buffer.
 use channel::Kind;
-use frame::places;
+use coding::places;
 use item::Item;
 use item::ItemKind;
 ghost use mathlib.Core.Path.{_≡_};

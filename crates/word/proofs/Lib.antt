@@ -1,3 +1,4 @@
 pub mod WordLaws
 pub mod MaskLaws
 pub mod FieldLaws
+pub mod BelowLaws

@@ -1,7 +1,7 @@
 -- A frame's 160 bits as three numbers, and the fixed bits of a pattern as octets.
 -- Assumes nothing.
 use mathlib.Core.Path.{_≡_}
-use mathlib.Core.Bool.{true, not, Bool·beq}
+use mathlib.Core.Bool.{Bool, true, not, Bool·beq}
 use mathlib.Core.List.{List, _++_}
 use Prim.Native.Nat.{ℕ, _+_, _*_}
 use lib.Dec.{ltb}
@@ -24,9 +24,13 @@ pub record Holds (g : Word) (a b c : ℕ) : Type 0 where
   pub second : b ≡ fieldAt g 64 64
   pub third : c ≡ fieldAt g 32 128
 
+-- of the 160 bits of some octets those at some places are ones, and no other (a `let`, so that a check computes the places once)
+abbrev pub onesAt : List ℕ → List ℕ → Bool
+onesAt octets places = let ps = places in all (λ i. Bool·beq (bitAt octets i) (elem i ps)) (count 160 0)
+
 -- the fixed bits of a pattern as octets: which bits are fixed, and the fixed ones
 pub record FixedBy (zeros ones mask fixed : List ℕ) : Type 0 where
-  pub mask-is : all (λ i. Bool·beq (bitAt mask i) (elem i (zeros ++ ones))) (count 160 0) ≡ true
-  pub fixed-is : all (λ i. Bool·beq (bitAt fixed i) (elem i ones)) (count 160 0) ≡ true
+  pub mask-is : onesAt mask (zeros ++ ones) ≡ true
+  pub fixed-is : onesAt fixed ones ≡ true
   pub inside : all (λ i. ltb i 160) (zeros ++ ones) ≡ true
   pub apart : all (λ i. not (elem i ones)) zeros ≡ true

@@ -3,7 +3,7 @@ ghost use mathlib.Core.Path.{_≡_};
 ghost use Prim.Native.Nat.{_*_, _≤_};
 ghost use lib.ListN.{length};
 ghost use Rattle.plans.specs.Plan.{Plans};
-ghost use Rattle.frame.specs.Kept.{Kept};
+ghost use Rattle.masks.specs.Kept.{Kept};
 ghost use Rattle.bits.specs.Put.{putBits};
 ghost use Rattle.channel.specs.Frames.{behind};
 ghost use Rattle.item.specs.Item.{cursorOf};
@@ -151,7 +151,7 @@ pub fn write(records: &[u8], r: Request, buffer: &mut [u8]) -> Answer
         position: cursor.position as usize,
         context: cursor.context as u8,
     };
-    let mut masks = frame::no_masks();
+    let mut masks = masks::no_masks();
     let table = dplaces::table();
     let mut plan = plans::no_plans();
     let judged = judge_all(

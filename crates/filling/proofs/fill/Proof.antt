@@ -12,7 +12,7 @@ use Rattle.channel.specs.Verdict.{Context}
 use Rattle.channel.specs.Frames.{captureOf, rules}
 use Rattle.channel.proofs.FrameLaws.{sound}
 use Rattle.plans.specs.Plan.{Plans}
-use Rattle.frame.specs.Kept.{Kept}
+use Rattle.masks.specs.Kept.{Kept}
 use Rattle.item.specs.Item.{itemOf, cursorOf}
 use Rattle.channel.specs.Record.{sizeOf, recordOf}
 use Rattle.record.proofs.RecordLaws.{record-length, size-of, size-le}

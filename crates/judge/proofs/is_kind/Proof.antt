@@ -2,7 +2,7 @@
 -- Assumes nothing.
 use mathlib.Core.Path.{sym, subst}
 use Rattle.bits.specs.Bit.{bitAt}
-use Rattle.frame.specs.Found.{KindOf}
+use Rattle.coding.specs.Found.{KindOf}
 use Rattle.judge.proofs.SoundLaws.{kind-same}
 use borrow.Author.Needs.{needs}
 use Rattle.judge.proofs.is_kind.Statement.{statement}

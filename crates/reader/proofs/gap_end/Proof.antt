@@ -5,7 +5,7 @@ use mathlib.Core.Path.{_≡_, refl, sym, _∙_}
 use Prim.Native.Nat.{_+_, _-_, _≤_}
 use native.Mathlib.Omega.{arith}
 use Rattle.channel.specs.Frames.{captureOf}
-use Rattle.frame.specs.Kept.{Kept}
+use Rattle.masks.specs.Kept.{Kept}
 use Rattle.reader.proofs.GapLaws.{sync-place, none-differs, Passed, passed-more, passed-over, gap-found, gap-all, not-starting}
 use borrow.Author.Needs.{needs}
 use Rattle.reader.proofs.gap_end.Statement.{statement}

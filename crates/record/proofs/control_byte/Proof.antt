@@ -3,7 +3,7 @@
 use native.Mathlib.Omega.{arith}
 use Rattle.channel.specs.declared.Kind.the-variants.{Speech, Data, Om, Configuration, NoSpeech, Lower, Amr670, Amr740}
 use Rattle.channel.specs.Control.{controlPlaces, control}
-use Rattle.frame.proofs.CodingLaws.{listed-below}
+use Rattle.word.proofs.BelowLaws.{listed-below}
 use borrow.Author.Needs.{needs}
 use Rattle.record.proofs.control_byte.Statement.{statement}
 use Rattle.record.proofs.control_byte.Tie as tie

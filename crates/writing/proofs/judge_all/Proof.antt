@@ -9,7 +9,7 @@ use Rattle.reading.specs.Reading.{frame, over}
 use Rattle.reading.proofs.FillLaws.{tail-is, length-tail}
 use Rattle.channel.specs.Frames.{rules}
 use Rattle.plans.specs.Plan.{Plans}
-use Rattle.frame.specs.Kept.{Kept}
+use Rattle.masks.specs.Kept.{Kept}
 use Rattle.item.specs.declared.Item.{Item}
 use Rattle.item.specs.Item.{itemOf, cursorOf}
 use Rattle.record.proofs.RecordLaws.{size-pos, size-le}

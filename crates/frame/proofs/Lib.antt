@@ -1,3 +1,0 @@
-pub mod CodingLaws
-pub mod KeptLaws
-pub mod VerdictLaws

@@ -1,0 +1,135 @@
+// The masks of the covered lists: worked out of a list when its first frame comes, and kept for the rest of the call.
+pub mod covered;
+
+ghost use mathlib.Core.Path.{_≡_};
+ghost use mathlib.Core.Bool.{not};
+ghost use mathlib.Core.List.{List, [], _∷_};
+ghost use Prim.Native.Nat.{ℕ, _+_, _≤_, _<_};
+ghost use lib.ListN.{length, getD};
+ghost use Rattle.bits.specs.Bit.{bitAt, toN};
+ghost use Rattle.channel.specs.Crc.{right};
+ghost use Rattle.channel.specs.Verdict.{wrongs};
+ghost use Rattle.word.specs.Below.{Below};
+ghost use Rattle.word.specs.Words.{Holds};
+ghost use Rattle.masks.specs.Kept.{covered, MadeAt, Kept, More};
+use word::Words;
+
+// Numbers for the masks of the twelve lists, none of them worked out.
+pub fn no_masks() -> [u64; 120]
+    ensures { λ r. ⌜ Kept r ⌝ }
+{
+    [0u64; 120]
+}
+
+// Works out the masks of list i, and marks them.
+fn put_masks(m: &mut [u64], i: usize, places: &[u8])
+    requires { ⌜ (i < 12) × Kept (now m) × (now places ≡ getD covered i []) × Below 160 (now places) ⌝ }
+    ensures { λ _. ⌜ More i (now (m .entry)) (now (m .exit)) ⌝ }
+{
+    let masks = crc::masks_of(places);
+    let at = 10 * i;
+    for j in 0..9 {
+        m[at + j] = masks[j];
+    }
+    m[at + 9] = 1;
+}
+
+// Works out the masks of list i, one of kind 6 in mode 4,75. A constant array is built where it is named, so each list is named in its own arm.
+fn make_475(m: &mut [u64], i: usize)
+    requires { ⌜ (1 ≤ i) × (i < 5) × Kept (now m) ⌝ }
+    ensures { λ _. ⌜ More i (now (m .entry)) (now (m .exit)) ⌝ }
+{
+    match i {
+        1 => put_masks(m, 1, &covered::LOWER_475_CRC1),
+        2 => put_masks(m, 2, &covered::LOWER_475_CRC2),
+        3 => put_masks(m, 3, &covered::LOWER_475_CRC3),
+        _ => put_masks(m, 4, &covered::LOWER_475_CRC4),
+    }
+}
+
+// Works out the masks of list i, one of kind 6 in mode 5,15.
+fn make_515(m: &mut [u64], i: usize)
+    requires { ⌜ (5 ≤ i) × (i < 9) × Kept (now m) ⌝ }
+    ensures { λ _. ⌜ More i (now (m .entry)) (now (m .exit)) ⌝ }
+{
+    match i {
+        5 => put_masks(m, 5, &covered::LOWER_515_CRC1),
+        6 => put_masks(m, 6, &covered::LOWER_515_CRC2),
+        7 => put_masks(m, 7, &covered::LOWER_515_CRC3),
+        _ => put_masks(m, 8, &covered::LOWER_515_CRC4),
+    }
+}
+
+// Works out the masks of list i, one that has only a CRC1: of kind 6 in mode 5,90, or of kind 7 or 8.
+fn make_lone(m: &mut [u64], i: usize)
+    requires { ⌜ (9 ≤ i) × (i < 12) × Kept (now m) ⌝ }
+    ensures { λ _. ⌜ More i (now (m .entry)) (now (m .exit)) ⌝ }
+{
+    match i {
+        9 => put_masks(m, 9, &covered::LOWER_590_CRC1),
+        10 => put_masks(m, 10, &covered::AMR670_CRC1),
+        _ => put_masks(m, 11, &covered::AMR740_CRC1),
+    }
+}
+
+// Works out the masks of list i. In parts, since what a check costs grows with the square of a function's arms.
+fn make(m: &mut [u64], i: usize)
+    requires { ⌜ (i < 12) × Kept (now m) ⌝ }
+    ensures { λ _. ⌜ More i (now (m .entry)) (now (m .exit)) ⌝ }
+{
+    if i == 0 {
+        put_masks(m, 0, &covered::SPEECH_CRC)
+    } else if i < 5 {
+        make_475(m, i)
+    } else if i < 9 {
+        make_515(m, i)
+    } else {
+        make_lone(m, i)
+    }
+}
+
+// The masks of list i are worked out, unless they are already.
+fn ready(m: &mut [u64], i: usize)
+    requires { ⌜ (i < 12) × Kept (now m) ⌝ }
+    ensures { λ _. ⌜ More i (now (m .entry)) (now (m .exit)) ⌝ }
+{
+    if m[10 * i + 9] == 0 {
+        make(m, i);
+    }
+}
+
+// 1 where the CRC of list i is wrong, by its masks.
+fn wrong_by(w: Words, m: &[u64], i: usize) -> u8
+    requires { ⌜ (i < 12) × (length (now m) ≡ 120) × MadeAt (now m) i ⌝ }
+    ensures { λ r. ⌜ (r ≤ 1) × ((o : List ℕ) → Holds (bitAt o) (w .a) (w .b) (w .c) → r ≡ toN (not (right (bitAt o) (getD covered i [])))) ⌝ }
+{
+    if crc::right_by(w, m, 10 * i) { 0 } else { 1 }
+}
+
+// Whether the one CRC of list i is wrong. `ready` is written out here: so `make` has two callers, and the compiler leaves it out of both.
+pub fn one_wrong(w: Words, m: &mut [u64], i: usize) -> u8
+    requires { ⌜ (i < 12) × Kept (now m) ⌝ }
+    ensures { λ r. ⌜ Kept (now (m .exit)) × (r ≤ 1) × ((o : List ℕ) → Holds (bitAt o) (w .a) (w .b) (w .c) → r ≡ wrongs (bitAt o) (getD covered i [] ∷ [])) ⌝ }
+{
+    if m[10 * i + 9] == 0 {
+        make(m, i);
+    }
+    wrong_by(w, m, i)
+}
+
+// The wrong ones of four CRCs, those of the lists from i on, as bits: CRC1 is bit 0. All are made ready before the first is looked at, so that what makes
+// them stays out of the way.
+pub fn four_wrongs(w: Words, m: &mut [u64], i: usize) -> u8
+    requires { ⌜ (i < 9) × Kept (now m) ⌝ }
+    ensures { λ r. ⌜ Kept (now (m .exit)) × (r < 16) × ((o : List ℕ) → Holds (bitAt o) (w .a) (w .b) (w .c) → r ≡ wrongs (bitAt o) (getD covered i [] ∷ getD covered (i + 1) [] ∷ getD covered (i + 2) [] ∷ getD covered (i + 3) [] ∷ [])) ⌝ }
+{
+    ready(m, i);
+    ready(m, i + 1);
+    ready(m, i + 2);
+    ready(m, i + 3);
+    let w1 = wrong_by(w, m, i);
+    let w2 = wrong_by(w, m, i + 1);
+    let w3 = wrong_by(w, m, i + 2);
+    let w4 = wrong_by(w, m, i + 3);
+    w1 + 2 * w2 + 4 * w3 + 8 * w4
+}
