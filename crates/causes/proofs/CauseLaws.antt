@@ -36,13 +36,14 @@ use Rattle.channel.specs.declared.Found.the-variants.{Is, Nothing}
 use Rattle.channel.specs.Record.{dBytes, wide, numberAt, dLength, recordOf}
 use Rattle.dplaces.proofs.DPlaceLaws.{d-length}
 use Rattle.dbits.proofs.DBitLaws.{fromTop-bit, bytes-bit}
-use Rattle.record.specs.Built.{extendedPlaces}
 use Rattle.record.proofs.RecordLaws.{d-length-le, bytes-cut}
-use Rattle.record.proofs.BuiltLaws.{body-framed, ones-last, extended-top}
-use Rattle.record.proofs.OneLaws.{cut-cut, d-long}
+use Rattle.octets.specs.Built.{extendedPlaces}
 use Rattle.channel.specs.Sound.{SoundAs, Unsound}
-use Rattle.judge.specs.Judged.{kindBy}
-use Rattle.judge.proofs.SoundLaws.{kind-none, is-not, front-kind, front-long, front-tail, front-control, front-extended, front-d}
+use Rattle.parse.specs.Parsed.{kindBy}
+use Rattle.parse.proofs.ParseLaws.{kind-none, is-not}
+use Rattle.apart.proofs.BuiltLaws.{body-framed, ones-last, extended-top}
+use Rattle.apart.proofs.OneLaws.{cut-cut, d-long}
+use Rattle.apart.proofs.FrontLaws.{front-kind, front-long, front-tail, front-control, front-extended, front-d}
 use Rattle.causes.specs.Causes.{setBehind, hrControl, controlCoded, extendedCoded, caseOf, faulty}
 
 -- a byte of bits from the top is the octet of these bits

@@ -18,8 +18,8 @@ use Rattle.channel.specs.Control.{controlPlaces}
 use Rattle.channel.specs.declared.Found.{Found}
 use Rattle.channel.specs.declared.Found.the-variants.{Is, Nothing}
 use Rattle.channel.specs.Record.{numberAt, dLength}
-use Rattle.record.specs.Built.{extendedPlaces}
-use Rattle.judge.specs.Judged.{kindBy}
+use Rattle.octets.specs.Built.{extendedPlaces}
+use Rattle.parse.specs.Parsed.{kindBy}
 
 -- bits a to b as a number
 abbrev pub field : List ℕ → ℕ → ℕ → ℕ

@@ -21,12 +21,14 @@ use Rattle.channel.specs.Verdict.{Context, verdictOf}
 use Rattle.channel.specs.Frames.{Capture, captureOf, Frame, Due, behind, rules}
 use Rattle.channel.proofs.FrameLaws.{sound}
 use Rattle.channel.specs.Record.{recordOf, records}
-use Rattle.record.proofs.OneLaws.{obeys-fit}
+use Rattle.apart.proofs.OneLaws.{obeys-fit}
 use Rattle.channel.specs.Sound.{SoundAs, soundNumber}
 use Rattle.call.specs.declared.Answer.{Answer}
 use Rattle.call.specs.Call.{termsBy, cursorBy, answeredBy, refusedAt}
 use Rattle.writing.specs.declared.Request.{Request}
-use Rattle.writing.specs.Writing.{refusalOf, items, Taken, Decides, allBits, WrittenBy, WriteCall}
+use Rattle.taking.specs.Taken.{items, Taken, Decides}
+use Rattle.putting.specs.FrameBits.{allBits}
+use Rattle.writing.specs.Writing.{refusalOf, WrittenBy, WriteCall}
 use Rattle.writing.proofs.WriteLaws.{writable, Accepted, accepted, accepted-reach, write-one}
 use Rattle.roundtrip.proofs.ShownLaws.{stretch-shows}
 use Rattle.roundtrip.proofs.RoundLaws.{accepted-shows}

@@ -13,13 +13,14 @@ use Rattle.bits.specs.Bit.{bitAt}
 use Rattle.channel.specs.Verdict.{Context}
 use Rattle.channel.specs.Frames.{Capture, captureOf, Frame, rules}
 use Rattle.channel.specs.Record.{records}
-use Rattle.record.proofs.OneLaws.{all-frames}
+use Rattle.apart.proofs.OneLaws.{all-frames}
 use Rattle.call.specs.declared.Answer.{Answer}
 use Rattle.call.specs.Call.{termsBy, cursorBy, next, answeredBy}
 use Rattle.paging.specs.declared.Request as paging
 use Rattle.paging.specs.Paging.{PageCall}
 use Rattle.writing.specs.declared.Request as writing
-use Rattle.writing.specs.Writing.{refusalOf, items, WriteCall}
+use Rattle.taking.specs.Taken.{items}
+use Rattle.writing.specs.Writing.{refusalOf, WriteCall}
 use Rattle.paging.proofs.HarvestLaws.{got, got-bytes, stretch, request}
 use Rattle.roundtrip.proofs.OwnLaws.{own-number, own-answer, own-bits}
 

@@ -16,11 +16,13 @@ use Rattle.call.specs.declared.Answer.{Answer}
 use Rattle.call.specs.Call.{termsBy, cursorBy, next}
 use Rattle.paging.specs.Paging.{refusalOf}
 use Rattle.writing.specs.declared.Request.{Request}
-use Rattle.writing.specs.Writing.{items, allBits, WriteCall}
+use Rattle.taking.specs.Taken.{items}
+use Rattle.putting.specs.FrameBits.{allBits}
+use Rattle.writing.specs.Writing.{WriteCall}
 use Rattle.paging.specs.Harvest.{Asked, Harvest, harvested, counted}
 use Rattle.paging.proofs.HarvestLaws.{harvest-is}
 use Rattle.paging.proofs.CallLaws.{admit}
-use Rattle.writing.proofs.TakeLaws.{taken-records}
+use Rattle.taking.proofs.TakeLaws.{taken-records}
 use Rattle.writing.proofs.WriteLaws.{writable, Accepted, accepted, accepted-reach, accepted-fits, write-length}
 use Rattle.roundtrip.proofs.ShownLaws.{Shows, taken-stretch}
 

@@ -25,8 +25,10 @@ use Rattle.channel.specs.Frames.{Capture, Frame, Stands, behind, rules}
 use Rattle.channel.proofs.BoolLaws.{ands, zero-at}
 use Rattle.channel.proofs.FrameLaws.{body-low}
 use Rattle.channel.specs.Sound.{FitFrame}
-use Rattle.writing.specs.Writing.{items, Taken, bitsOf, allBits}
-use Rattle.writing.proofs.TakeLaws.{passes, length-bits, taken-length}
+use Rattle.taking.specs.Taken.{items, Taken}
+use Rattle.taking.proofs.TakeLaws.{passes}
+use Rattle.putting.specs.FrameBits.{bitsOf, allBits}
+use Rattle.putting.proofs.FrameLaws.{length-bits, taken-length}
 
 -- from p on stand these bits
 abbrev pub Shows : (ℕ → Bool) → ℕ → List Bool → Type 0

@@ -1,3 +1,4 @@
-pub mod TakeLaws
+-- The laws of this crate, for the crates above it.
+-- Assumes nothing.
 pub mod WriteLaws
-pub mod JudgeLaws
+pub mod CallLaws

@@ -18,10 +18,13 @@ use Rattle.channel.specs.Frames.{Frame, rules}
 use Rattle.call.specs.declared.CursorNumbers.{CursorNumbers}
 use Rattle.call.specs.declared.Answer.{Answer}
 use Rattle.call.specs.Call.{termsBy, cursorBy, answeredBy, refusedAt}
-use Rattle.writing.specs.declared.Request.{Request}
-use Rattle.writing.specs.Writing.{refusalOf, items, Taken, Decides, allBits, Put, WrittenBy, WriteCall}
 use Rattle.call.proofs.NumberLaws.{passed}
-use Rattle.writing.proofs.TakeLaws.{decides-all, taken-one, taken-within, taken-length}
+use Rattle.taking.specs.Taken.{items, Taken, Decides}
+use Rattle.taking.proofs.TakeLaws.{decides-all, taken-one, taken-within}
+use Rattle.putting.specs.FrameBits.{allBits}
+use Rattle.putting.proofs.FrameLaws.{taken-length}
+use Rattle.writing.specs.declared.Request.{Request}
+use Rattle.writing.specs.Writing.{refusalOf, Put, WrittenBy, WriteCall}
 
 -- what 1 to 3 ask of a request
 pub record Writable (bytes : ℕ) (ask : Request) (room : ℕ) : Type 0 where

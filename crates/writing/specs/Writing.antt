@@ -1,23 +1,20 @@
 -- What writing answers (document 01, "Records and calls": Writing and the table of numbers).
 -- Assumes nothing.
 use mathlib.Core.Path.{_≡_}
-use mathlib.Core.Logic.{_⊎_}
-use mathlib.Core.Bool.{Bool, true, cond}
-use mathlib.Core.List.{List, [], _∷_, _++_, map}
-use Prim.Native.Nat.{ℕ, zero, suc, _*_, _<_}
+use mathlib.Core.Bool.{cond}
+use mathlib.Core.List.{List}
+use Prim.Native.Nat.{ℕ, zero, suc, _*_}
 use lib.Dec.{ltb}
-use lib.ListN.{length, replicate}
-use Rattle.reading.specs.Reading.{Cursor, Item, frame, over, overAll}
-use Rattle.bits.specs.Bit.{count}
+use lib.ListN.{length}
+use Rattle.reading.specs.Reading.{overAll}
 use Rattle.bits.specs.Put.{putBits}
 use Rattle.channel.specs.declared.Terms.{Terms}
-use Rattle.channel.specs.Kinds.{bodyOf}
-use Rattle.channel.specs.Verdict.{Context}
 use Rattle.channel.specs.Frames.{Frame, rules}
-use Rattle.channel.specs.Sound.{SoundAs, Unsound, soundNumber}
 use Rattle.call.specs.declared.CursorNumbers.{CursorNumbers}
 use Rattle.call.specs.declared.Answer.{Answer}
 use Rattle.call.specs.Call.{termsBy, cursorBy, answeredBy, refused, refusedAt}
+use Rattle.taking.specs.Taken.{items, Taken, Decides}
+use Rattle.putting.specs.FrameBits.{allBits}
 use Rattle.writing.specs.declared.Request.{Request}
 
 -- the numbers 1 to 3, in their order: direction above 1 or over 65,536 bytes of records; over 65,536 bytes of buffer; cursor beyond 8 times the
@@ -29,32 +26,6 @@ refusalOf bytes r room =
     (cond (ltb 65536 room) 2
     (cond (ltb (8 * room) (r .cursor .position)) 3
     (cond (ltb 5 (r .cursor .context)) 3 0))))
-
--- frames as items
-abbrev pub items : List Frame → List (Item Frame)
-items fs = map frame fs
-
--- the records in front of some bytes are taken one after the other, as those of frames: each is sound, and neither 6 nor 4 is given at the cursor
--- that the one before it left; what is behind them is left
-abbrev pub Taken : Terms → ℕ → Cursor Context → List ℕ → List Frame → List ℕ → Type 0
-Taken terms bits c bytes [] left = bytes ≡ left
-Taken terms bits c bytes (f ∷ fs) left = (rest : List ℕ) × SoundAs terms bytes f rest × (soundNumber bits c f ≡ 0) × Taken terms bits (over rules c (frame f)) rest fs left
-
--- what decides there: nothing is left (0), the record there is unsound (5), or it is sound and refused by 6 or 4
-abbrev pub Decides : Terms → ℕ → Cursor Context → List ℕ → ℕ → Type 0
-Decides terms bits c [] number = number ≡ 0
-Decides terms bits c (b ∷ bs) number =
-    ((number ≡ 5) × Unsound terms (b ∷ bs))
-    ⊎ ((f : Frame) × (rest : List ℕ) × SoundAs terms (b ∷ bs) f rest × (number ≡ soundNumber bits c f) × (0 < number))
-
--- the bits of a frame: its body, and the ones of its tail
-abbrev pub bitsOf : Frame → List Bool
-bitsOf f = map (f .body) (count (bodyOf (f .kind)) 0) ++ replicate (f .tail) true
-
--- the bits of frames, one behind the other
-abbrev pub allBits : List Frame → List Bool
-allBits [] = []
-allBits (f ∷ fs) = bitsOf f ++ allBits fs
 
 -- by the number that decides: body and tail bits are put from the cursor's position on and other bits keep their value, items and the cursor after are
 -- answered, with 0 bytes; or the record's index is answered and the buffer is as it was

@@ -1,7 +1,8 @@
 -- `judge::frame_of` meets its contract.
 -- Assumes nothing.
 use native.Mathlib.Omega.{arith}
-use Rattle.judge.proofs.SoundLaws.{judged-sound, judged-unsound, unsound-by, record-none}
+use Rattle.apart.proofs.FrontLaws.{record-none}
+use Rattle.judge.proofs.SoundLaws.{judged-sound, judged-unsound, unsound-by}
 use borrow.Author.Needs.{needs}
 use Rattle.judge.proofs.frame_of.Statement.{statement}
 use Rattle.judge.proofs.frame_of.Tie as tie
@@ -16,7 +17,7 @@ sound-requires : tie.Need-sound-requires
 sound-requires c κs = search needs
 
 same-length : tie.Need-same-length
-same-length c = search needs
+same-length c = c .before .before .before .before .before .before .before .before .record-by .kept .1 .1 .0
 
 returns : tie.Need-returns
 returns c =
@@ -39,7 +40,7 @@ unsound-requires-2 : tie.Need-unsound-requires-2
 unsound-requires-2 c κs = search needs
 
 same-length-2 : tie.Need-same-length-2
-same-length-2 c = search needs
+same-length-2 c = c .before .before .before .before .before .before .before .before .before .record-by .kept .1 .1 .0
 
 returns-2 : tie.Need-returns-2
 returns-2 c =
@@ -52,7 +53,7 @@ returns-2 c =
     )
 
 same-length-3 : tie.Need-same-length-3
-same-length-3 c = search needs
+same-length-3 c = c .before .before .before .before .before .record-by .kept .1 .1 .0
 
 returns-3 : tie.Need-returns-3
 returns-3 c =

@@ -3,7 +3,8 @@
 use mathlib.Core.Path.{sym, _∙_}
 use native.Mathlib.Omega.{arith}
 use borrow.Author.Tests.{not-true, not-false}
-use Rattle.judge.proofs.SoundLaws.{record-long, sound-kind, sound-tail, sound-record, plan-item}
+use Rattle.parse.proofs.ParseLaws.{record-long}
+use Rattle.judge.proofs.SoundLaws.{sound-kind, sound-tail, sound-record, plan-item}
 use borrow.Author.Needs.{needs}
 use Rattle.judge.proofs.sound.Statement.{statement}
 use Rattle.judge.proofs.sound.Tie as tie

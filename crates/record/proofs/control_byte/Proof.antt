@@ -1,9 +1,8 @@
 -- `record::control_byte` meets its contract: each list of places is that of the definition.
 -- Assumes nothing.
-use native.Mathlib.Omega.{arith}
 use Rattle.channel.specs.declared.Kind.the-variants.{Speech, Data, Om, Configuration, NoSpeech, Lower, Amr670, Amr740}
-use Rattle.channel.specs.Control.{controlPlaces, control}
-use Rattle.word.proofs.BelowLaws.{listed-below}
+use Rattle.channel.specs.Control.{control}
+use Rattle.record.proofs.KindLaws.{control-few}
 use borrow.Author.Needs.{needs}
 use Rattle.record.proofs.control_byte.Statement.{statement}
 use Rattle.record.proofs.control_byte.Tie as tie
@@ -15,7 +14,7 @@ slice-aggregate-top-byte : tie.Need-slice-aggregate-top-byte
 slice-aggregate-top-byte c = search needs
 
 top-byte-requires : tie.Need-top-byte-requires
-top-byte-requires c κs = (listed-below 160 (controlPlaces Speech) tt, omega arith)
+top-byte-requires c κs = control-few Speech
 
 enum-told-2 : tie.Need-enum-told-2
 enum-told-2 c = search needs
@@ -24,7 +23,7 @@ slice-aggregate-top-byte-2 : tie.Need-slice-aggregate-top-byte-2
 slice-aggregate-top-byte-2 c = search needs
 
 top-byte-requires-2 : tie.Need-top-byte-requires-2
-top-byte-requires-2 c κs = (listed-below 160 (controlPlaces Data) tt, omega arith)
+top-byte-requires-2 c κs = control-few Data
 
 enum-told-3 : tie.Need-enum-told-3
 enum-told-3 c = search needs
@@ -33,7 +32,7 @@ slice-aggregate-top-byte-3 : tie.Need-slice-aggregate-top-byte-3
 slice-aggregate-top-byte-3 c = search needs
 
 top-byte-requires-3 : tie.Need-top-byte-requires-3
-top-byte-requires-3 c κs = (listed-below 160 (controlPlaces Om) tt, omega arith)
+top-byte-requires-3 c κs = control-few Om
 
 enum-told-4 : tie.Need-enum-told-4
 enum-told-4 c = search needs
@@ -42,7 +41,7 @@ slice-aggregate-top-byte-4 : tie.Need-slice-aggregate-top-byte-4
 slice-aggregate-top-byte-4 c = search needs
 
 top-byte-requires-4 : tie.Need-top-byte-requires-4
-top-byte-requires-4 c κs = (listed-below 160 (controlPlaces Configuration) tt, omega arith)
+top-byte-requires-4 c κs = control-few Configuration
 
 enum-told-5 : tie.Need-enum-told-5
 enum-told-5 c = search needs
@@ -51,7 +50,7 @@ slice-aggregate-top-byte-5 : tie.Need-slice-aggregate-top-byte-5
 slice-aggregate-top-byte-5 c = search needs
 
 top-byte-requires-5 : tie.Need-top-byte-requires-5
-top-byte-requires-5 c κs = (listed-below 160 (controlPlaces NoSpeech) tt, omega arith)
+top-byte-requires-5 c κs = control-few NoSpeech
 
 enum-told-6 : tie.Need-enum-told-6
 enum-told-6 c = search needs
@@ -60,7 +59,7 @@ slice-aggregate-top-byte-6 : tie.Need-slice-aggregate-top-byte-6
 slice-aggregate-top-byte-6 c = search needs
 
 top-byte-requires-6 : tie.Need-top-byte-requires-6
-top-byte-requires-6 c κs = (listed-below 160 (controlPlaces Lower) tt, omega arith)
+top-byte-requires-6 c κs = control-few Lower
 
 enum-told-7 : tie.Need-enum-told-7
 enum-told-7 c = search needs
@@ -69,7 +68,7 @@ slice-aggregate-top-byte-7 : tie.Need-slice-aggregate-top-byte-7
 slice-aggregate-top-byte-7 c = search needs
 
 top-byte-requires-7 : tie.Need-top-byte-requires-7
-top-byte-requires-7 c κs = (listed-below 160 (controlPlaces Amr670) tt, omega arith)
+top-byte-requires-7 c κs = control-few Amr670
 
 enum-told-8 : tie.Need-enum-told-8
 enum-told-8 c = search needs
@@ -78,7 +77,7 @@ slice-aggregate-top-byte-8 : tie.Need-slice-aggregate-top-byte-8
 slice-aggregate-top-byte-8 c = search needs
 
 top-byte-requires-8 : tie.Need-top-byte-requires-8
-top-byte-requires-8 c κs = (listed-below 160 (controlPlaces Amr740) tt, omega arith)
+top-byte-requires-8 c κs = control-few Amr740
 
 returns : tie.Need-returns
 unfolding control

@@ -6,7 +6,8 @@ use native.Mathlib.Omega.{arith}
 use lib.ListN.{length}
 use Rattle.item.specs.Item.{cursorOf}
 use Rattle.call.specs.Call.{cursorBy}
-use Rattle.writing.proofs.JudgeLaws.{admits, refused-write, refused-record, all-taken, written-call}
+use Rattle.taking.proofs.JudgeLaws.{all-taken}
+use Rattle.writing.proofs.CallLaws.{admits, refused-write, refused-record, written-call}
 use borrow.Author.Needs.{needs}
 use Rattle.writing.proofs.write.Statement.{statement}
 use Rattle.writing.proofs.write.Tie as tie

@@ -1,0 +1,2 @@
+pub mod FrameBits
+pub mod Putting
