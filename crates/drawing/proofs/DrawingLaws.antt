@@ -7,7 +7,7 @@ use Prim.Native.Nat.{ℕ, zero, suc, _+_, _*_, _≤_}
 use native.Mathlib.Numerals.{add-one}
 use native.Mathlib.Omega.{arith}
 use lib.Dec.{ltb}
-use lib.ListN.{length, take, drop, length-append, length-drop}
+use lib.ListN.{length, take, drop, length-append, length-take, length-drop}
 use lib.Seq.{take-all}
 use Rattle.channel.specs.declared.Direction.the-variants.{Uplink, Downlink}
 use Rattle.channel.specs.declared.Kind.{Kind}
@@ -64,6 +64,10 @@ octets-long k (suc n) = omega (arith, length-append (octetsOf k n) (octetOf k n)
 -- a heading
 pub heading-short : (k : Kind) (title : List ℕ) → length (headingOf k title) ≤ length title + 127
 heading-short k title = simp length-append (omega (arith, digits-most 20 (bodyOf k), digits-most 20 (leastTail Uplink k), digits-most 20 (leastTail Downlink k)))
+
+-- two columns at most
+pub two-columns : (bytes : List ℕ) → length (take 2 bytes) ≤ 2
+two-columns bytes = omega (arith, length-take 2 bytes)
 
 -- the number of an octet is put, of which two columns are wanted
 pub number-put : {before after number : List ℕ} {at end : ℕ} (octet : ℕ) → number ≡ letteredOf 32 32 (octet + 1) → Put before at (take 2 (drop 3 number)) after end

@@ -12,21 +12,6 @@ use Rattle.bits.proofs.octet.Tie as tie
 returns : tie.Need-returns
 returns c = let a = c .before .before .args in octet-past (bitAt (a .s .now)) (a .n) (a .q) (c .if1 .taken)
 
-shared-slice-read-join : tie.Need-shared-slice-read-join
-shared-slice-read-join c = search needs
-
-add-byte-or-zero : tie.Need-add-byte-or-zero
-add-byte-or-zero c = search needs
-
-byte-or-zero-requires : tie.Need-byte-or-zero-requires
-byte-or-zero-requires c κs = search needs
-
-join-requires : tie.Need-join-requires
-join-requires c κs = search needs
-
-add-if2 : tie.Need-add-if2
-add-if2 c = search needs
-
 returns-2 : tie.Need-returns-2
 returns-2 c =
     let a = c .before .before .before .before .before .before .args in
@@ -34,12 +19,6 @@ returns-2 c =
     let x = c .before .join in
     let fits : getD (a .s .now) (a .q / 8 + 1) 0 < 256 = omega (arith, next .ensures) in
     octet-whole (a .s .now) (a .n) (a .q) (x .result) fits (shifted-by (a .s .now) (a .q) (next .result) (x .result) (x .ensures) (next .ensures)) (c .if2 .taken)
-
-sub-top : tie.Need-sub-top
-sub-top c = search needs
-
-top-requires : tie.Need-top-requires
-top-requires c κs = search needs
 
 returns-3 : tie.Need-returns-3
 returns-3 c =
@@ -53,14 +32,5 @@ returns-3 c =
 pub octet-spec : {M : Type 1} → statement M
 octet-spec =
     tie.close
-    (tie.spec
-    returns
-    shared-slice-read-join
-    add-byte-or-zero
-    byte-or-zero-requires
-    join-requires
-    add-if2
-    returns-2
-    sub-top
-    top-requires
-    returns-3)
+    (tie.spec returns (λ c. search needs) (λ c. search needs) (λ c κs. search needs) (λ c κs. search needs) (λ c. search needs) returns-2
+    (λ c. search needs) (λ c κs. search needs) returns-3)

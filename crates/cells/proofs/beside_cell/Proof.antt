@@ -8,22 +8,10 @@ use borrow.Author.Needs.{needs}
 use Rattle.cells.proofs.beside_cell.Statement.{statement}
 use Rattle.cells.proofs.beside_cell.Tie as tie
 
-number-requires : tie.Need-number-requires
-number-requires c κs = search needs
-
-crc-cell-requires : tie.Need-crc-cell-requires
-crc-cell-requires c κs = search needs
-
-xc-cell-requires : tie.Need-xc-cell-requires
-xc-cell-requires c κs = search needs
-
 returns : tie.Need-returns
 returns c =
     let a = c .before .before .before .before .args in
     rw (beside-by (a .k) (a .p) (a .other), eq-eqb (kindNo (a .k)) 1 (sym (c .before .before .before .number .ensures) ∙ c .before .before .if1 .taken)) (rw (c .before .crc-cell .ensures) at (c .xc-cell .ensures))
-
-xc-cell-requires-2 : tie.Need-xc-cell-requires-2
-xc-cell-requires-2 c κs = search needs
 
 returns-2 : tie.Need-returns-2
 returns-2 c =
@@ -38,11 +26,4 @@ returns-3 c =
 pub beside-cell-spec : {M : Type 1} → statement M
 beside-cell-spec =
     tie.close
-    (tie.spec
-    number-requires
-    crc-cell-requires
-    xc-cell-requires
-    returns
-    xc-cell-requires-2
-    returns-2
-    returns-3)
+    (tie.spec (λ c κs. search needs) (λ c κs. search needs) (λ c κs. search needs) returns (λ c κs. search needs) returns-2 returns-3)

@@ -47,16 +47,5 @@ returns-2 c =
 pub d-cell-spec : {M : Type 1} → statement M
 d-cell-spec =
     tie.close
-    (tie.spec
-    (λ c κs. search needs)
-    (λ c κs. search needs)
-    (λ c κs. search needs)
-    add-to
-    (λ c. search needs)
-    (λ c. search needs)
-    part-index-in-end
-    (λ c κs. search needs)
-    (λ c. search needs)
-    d-name-requires
-    returns
-    returns-2)
+    (tie.spec (λ c κs. search needs) (λ c κs. search needs) (λ c κs. search needs) add-to (λ c. search needs) (λ c. search needs) part-index-in-end
+    (λ c κs. search needs) (λ c. search needs) d-name-requires returns returns-2)

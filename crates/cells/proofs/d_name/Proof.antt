@@ -9,27 +9,15 @@ use borrow.Author.Needs.{needs}
 use Rattle.cells.proofs.d_name.Statement.{statement}
 use Rattle.cells.proofs.d_name.Tie as tie
 
-number-requires : tie.Need-number-requires
-number-requires c κs = search needs
-
-add-t5 : tie.Need-add-t5
-add-t5 c = search needs
-
 returns : tie.Need-returns
 returns c =
     let a = c .before .before .args in
     rw (d-name-by (a .k) (a .i), ne-eqb (kindNo (a .k)) 2 (λ e. c .if1 .taken (c .before .number .ensures ∙ e)))
 
-add-t6 : tie.Need-add-t6
-add-t6 c = search needs
-
 returns-2 : tie.Need-returns-2
 returns-2 c =
     let a = c .before .before .before .args in
     rw (d-name-by (a .k) (a .i), eq-eqb (kindNo (a .k)) 2 (sym (c .before .before .number .ensures) ∙ c .before .if1 .left), lt-ltb (a .i) 63 (omega arith))
-
-sub-t7 : tie.Need-sub-t7
-sub-t7 c = search needs
 
 returns-3 : tie.Need-returns-3
 returns-3 c =
@@ -37,4 +25,4 @@ returns-3 c =
     rw (d-name-by (a .k) (a .i), eq-eqb (kindNo (a .k)) 2 (sym (c .before .before .number .ensures) ∙ c .before .if1 .left), le-ltb (a .i) 63 (omega arith))
 
 pub d-name-spec : {M : Type 1} → statement M
-d-name-spec = tie.close (tie.spec number-requires add-t5 returns add-t6 returns-2 sub-t7 returns-3)
+d-name-spec = tie.close (tie.spec (λ c κs. search needs) (λ c. search needs) returns (λ c. search needs) returns-2 (λ c. search needs) returns-3)

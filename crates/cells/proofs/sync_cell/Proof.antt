@@ -8,12 +8,6 @@ use borrow.Author.Needs.{needs}
 use Rattle.cells.proofs.sync_cell.Statement.{statement}
 use Rattle.cells.proofs.sync_cell.Tie as tie
 
-bit-in-requires : tie.Need-bit-in-requires
-bit-in-requires c κs = search needs
-
-bit-in-requires-2 : tie.Need-bit-in-requires-2
-bit-in-requires-2 c κs = search needs
-
 returns : tie.Need-returns
 returns c = λ zeros ones by.
     let a = c .before .before .before .before .before .before .before .args in
@@ -23,12 +17,6 @@ returns-2 : tie.Need-returns-2
 returns-2 c = λ zeros ones by.
     let a = c .before .before .before .before .before .before .before .args in
     sync-zero zeros ones (a .mask .now) (a .fixed .now) (a .cs .now) (a .p) (a .other) by (c .before .before .before .before .before .before .before .pre .0) (sym (c .before .before .before .bit-in .ensures) ∙ c .before .before .if1 .taken) (sym (c .before .bit-in2 .ensures) ∙ c .if2 .left)
-
-index-in-requires : tie.Need-index-in-requires
-index-in-requires c κs = search needs
-
-add-t12 : tie.Need-add-t12
-add-t12 c = search needs
 
 returns-3 : tie.Need-returns-3
 returns-3 c = λ zeros ones by.
@@ -45,12 +33,4 @@ returns-4 c = λ zeros ones by.
 pub sync-cell-spec : {M : Type 1} → statement M
 sync-cell-spec =
     tie.close
-    (tie.spec
-    bit-in-requires
-    bit-in-requires-2
-    returns
-    returns-2
-    index-in-requires
-    add-t12
-    returns-3
-    returns-4)
+    (tie.spec (λ c κs. search needs) (λ c κs. search needs) returns returns-2 (λ c κs. search needs) (λ c. search needs) returns-3 returns-4)

@@ -37,4 +37,6 @@ returns-5 c =
     rw (le-ltb (a .p) b (omega arith), tail-by (a .k) (a .p - b), ne-eqb b 158 (λ e. omega arith), ne-eqb b 160 (λ e. omega arith), ne-eqb (kindNo (a .k)) 6 (λ e. omega arith))
 
 pub tail-cell-spec : {M : Type 1} → statement M
-tail-cell-spec = tie.close (tie.spec (λ c κs. search needs) returns (λ c. search needs) returns-2 returns-3 (λ c κs. search needs) returns-4 returns-5)
+tail-cell-spec =
+    tie.close
+    (tie.spec (λ c κs. search needs) returns (λ c. search needs) returns-2 returns-3 (λ c κs. search needs) returns-4 returns-5)

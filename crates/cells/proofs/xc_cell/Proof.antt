@@ -9,15 +9,6 @@ use Rattle.cells.proofs.CellLaws.{named-in, named-out}
 use Rattle.cells.proofs.xc_cell.Statement.{statement}
 use Rattle.cells.proofs.xc_cell.Tie as tie
 
-slice-aggregate-index-in : tie.Need-slice-aggregate-index-in
-slice-aggregate-index-in c = search needs
-
-index-in-requires : tie.Need-index-in-requires
-index-in-requires c κs = search needs
-
-add-t8 : tie.Need-add-t8
-add-t8 c = search needs
-
 returns : tie.Need-returns
 returns c =
     let a = c .before .before .before .args in
@@ -31,5 +22,4 @@ returns-2 c =
     sym (named-out xcPlaces (λ j. Xc (j + 1)) (a .p) (i .result) (a .other) (i .ensures) (c .if1 .left))
 
 pub xc-cell-spec : {M : Type 1} → statement M
-xc-cell-spec =
-    tie.close (tie.spec slice-aggregate-index-in index-in-requires add-t8 returns returns-2)
+xc-cell-spec = tie.close (tie.spec (λ c. search needs) (λ c κs. search needs) (λ c. search needs) returns returns-2)

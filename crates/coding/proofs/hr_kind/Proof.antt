@@ -15,12 +15,6 @@ use borrow.Author.Needs.{needs}
 use Rattle.coding.proofs.hr_kind.Statement.{statement}
 use Rattle.coding.proofs.hr_kind.Tie as tie
 
-field-of-requires : tie.Need-field-of-requires
-field-of-requires c κs = search needs
-
-odd-ones-requires : tie.Need-odd-ones-requires
-odd-ones-requires c κs = search needs
-
 returns : tie.Need-returns
 returns c = λ o h.
     let d = c .before .before .before .args .d in
@@ -28,17 +22,11 @@ returns c = λ o h.
     let packed = c .before .before .field-of .ensures .1 (bitAt o) (h .first) in
     hr-none d (bitAt o) (hr-odd-not d (bitAt o) (sym (odd-packed x (c .before .odd-ones .result) (bitsAt (bitAt o) (cPlaces Hr)) (c .before .odd-ones .ensures) packed) ∙ not-true (c .before .odd-ones .result) (c .if1 .taken)))
 
-c4-coded-requires : tie.Need-c4-coded-requires
-c4-coded-requires c κs = search needs
-
 returns-2 : tie.Need-returns-2
 returns-2 c = λ o h.
     let d = c .before .before .before .before .before .args .d in
     let packed = c .before .before .before .before .field-of .ensures .1 (bitAt o) (h .first) in
     hr-none d (bitAt o) (hr-c4 d (bitAt o) (c .before .before .before .before .field-of .result) packed (sym (c .before .c4-coded .ensures) ∙ not-true (c .before .c4-coded .result) (c .if2 .taken)))
-
-speech-xc-requires : tie.Need-speech-xc-requires
-speech-xc-requires c κs = search needs
 
 returns-3 : tie.Need-returns-3
 returns-3 c = λ o h.
@@ -69,9 +57,6 @@ returns-5 c = λ o h.
     let is-odd = sym (odd-packed x (c .before .before .before .before .before .odd-ones .result) (bitsAt g (cPlaces Hr)) (c .before .before .before .before .before .odd-ones .ensures) packed) ∙ not-false (c .before .before .before .before .before .odd-ones .result) (c .before .before .before .before .if1 .left) in
     let c4-holds = sym (c .before .before .before .c4-coded .ensures) ∙ not-false (c .before .before .before .c4-coded .result) (c .before .before .if2 .left) in
     (refl, hr-this d g x packed 1 (c .if5 .taken) c4-holds is-odd)
-
-om-xc-requires : tie.Need-om-xc-requires
-om-xc-requires c κs = search needs
 
 returns-6 : tie.Need-returns-6
 returns-6 c = λ o h.
@@ -116,18 +101,5 @@ returns-9 c = λ o h.
 pub hr-kind-spec : {M : Type 1} → statement M
 hr-kind-spec =
     tie.close
-    (tie.spec
-    field-of-requires
-    odd-ones-requires
-    returns
-    c4-coded-requires
-    returns-2
-    speech-xc-requires
-    returns-3
-    returns-4
-    returns-5
-    om-xc-requires
-    returns-6
-    returns-7
-    returns-8
-    returns-9)
+    (tie.spec (λ c κs. search needs) (λ c κs. search needs) returns (λ c κs. search needs) returns-2 (λ c κs. search needs) returns-3 returns-4
+    returns-5 (λ c κs. search needs) returns-6 returns-7 returns-8 returns-9)

@@ -10,39 +10,6 @@ use borrow.Author.Needs.{needs}
 use Rattle.coding.proofs.kind_of.Statement.{statement}
 use Rattle.coding.proofs.kind_of.Tie as tie
 
-slice-aggregate-words-of : tie.Need-slice-aggregate-words-of
-slice-aggregate-words-of c = search needs
-
-words-of-requires : tie.Need-words-of-requires
-words-of-requires c κs = search needs
-
-pattern-of-requires : tie.Need-pattern-of-requires
-pattern-of-requires c κs = search needs
-
-enum-known-p : tie.Need-enum-known-p
-enum-known-p c = search needs
-
-enum-told : tie.Need-enum-told
-enum-told c = search needs
-
-hr-kind-requires : tie.Need-hr-kind-requires
-hr-kind-requires c κs = search needs
-
-enum-told-2 : tie.Need-enum-told-2
-enum-told-2 c = search needs
-
-low-kind-requires : tie.Need-low-kind-requires
-low-kind-requires c κs = search needs
-
-enum-told-3 : tie.Need-enum-told-3
-enum-told-3 c = search needs
-
-enum-told-4 : tie.Need-enum-told-4
-enum-told-4 c = search needs
-
-enum-told-5 : tie.Need-enum-told-5
-enum-told-5 c = search needs
-
 returns : tie.Need-returns
 returns c =
     let a = c .before .before .before .before .before .before .before .before .before .args in
@@ -84,20 +51,6 @@ returns-5 c =
 pub kind-of-spec : {M : Type 1} → statement M
 kind-of-spec =
     tie.close
-    (tie.spec
-    slice-aggregate-words-of
-    words-of-requires
-    pattern-of-requires
-    enum-known-p
-    enum-told
-    hr-kind-requires
-    enum-told-2
-    low-kind-requires
-    enum-told-3
-    enum-told-4
-    enum-told-5
-    returns
-    returns-2
-    returns-3
-    returns-4
+    (tie.spec (λ c. search needs) (λ c κs. search needs) (λ c κs. search needs) (λ c. search needs) (λ c. search needs) (λ c κs. search needs)
+    (λ c. search needs) (λ c κs. search needs) (λ c. search needs) (λ c. search needs) (λ c. search needs) returns returns-2 returns-3 returns-4
     returns-5)

@@ -7,9 +7,6 @@ use borrow.Author.Needs.{needs}
 use Rattle.coding.proofs.low_kind.Statement.{statement}
 use Rattle.coding.proofs.low_kind.Tie as tie
 
-field-of-requires : tie.Need-field-of-requires
-field-of-requires c κs = search needs
-
 returns : tie.Need-returns
 returns c = λ o h. (refl, low-lower (c .before .before .args .d) (bitAt o) (c .before .field-of .result) (c .before .field-of .ensures .1 (bitAt o) (h .first)) (c .if1 .taken))
 
@@ -20,4 +17,4 @@ returns-3 : tie.Need-returns-3
 returns-3 c = λ o h. low-nothing (c .before .before .before .args .d) (bitAt o) (c .before .before .field-of .result) (c .before .before .field-of .ensures .1 (bitAt o) (h .first)) (c .before .if1 .left) (c .if2 .left)
 
 pub low-kind-spec : {M : Type 1} → statement M
-low-kind-spec = tie.close (tie.spec field-of-requires returns returns-2 returns-3)
+low-kind-spec = tie.close (tie.spec (λ c κs. search needs) returns returns-2 returns-3)

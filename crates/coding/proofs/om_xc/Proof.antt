@@ -12,12 +12,6 @@ use borrow.Author.Needs.{needs}
 use Rattle.coding.proofs.om_xc.Statement.{statement}
 use Rattle.coding.proofs.om_xc.Tie as tie
 
-xc-field-requires : tie.Need-xc-field-requires
-xc-field-requires c κs = search needs
-
-odd-ones-requires : tie.Need-odd-ones-requires
-odd-ones-requires c κs = search needs
-
 returns : tie.Need-returns
 returns c = λ o h.
     let x = c .before .before .xc-field in
@@ -29,4 +23,4 @@ returns-2 c = λ o h.
     xc-even (bitAt o) (x .result) (x .ensures .1 o h) (31 ∷ []) (sym (odd-packed (x .result) (c .before .odd-ones .result) (bitsAt (bitAt o) xcPlaces) (c .before .odd-ones .ensures) (x .ensures .1 o h)) ∙ c .if1 .left)
 
 pub om-xc-spec : {M : Type 1} → statement M
-om-xc-spec = tie.close (tie.spec xc-field-requires odd-ones-requires returns returns-2)
+om-xc-spec = tie.close (tie.spec (λ c κs. search needs) (λ c κs. search needs) returns returns-2)

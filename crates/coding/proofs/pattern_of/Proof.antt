@@ -7,12 +7,6 @@ use borrow.Author.Needs.{needs}
 use Rattle.coding.proofs.pattern_of.Statement.{statement}
 use Rattle.coding.proofs.pattern_of.Tie as tie
 
-candidate-requires : tie.Need-candidate-requires
-candidate-requires c κs = search needs
-
-holds-requires : tie.Need-holds-requires
-holds-requires c κs = search needs
-
 returns : tie.Need-returns
 returns c = λ o h. sym (c .before .holds .ensures o h) ∙ c .if1 .taken
 
@@ -20,4 +14,4 @@ returns-2 : tie.Need-returns-2
 returns-2 c = λ o h. nowhere (bitAt o) (c .before .before .candidate .result) (c .before .before .candidate .ensures o h) (sym (c .before .holds .ensures o h) ∙ c .if1 .left)
 
 pub pattern-of-spec : {M : Type 1} → statement M
-pattern-of-spec = tie.close (tie.spec candidate-requires holds-requires returns returns-2)
+pattern-of-spec = tie.close (tie.spec (λ c κs. search needs) (λ c κs. search needs) returns returns-2)

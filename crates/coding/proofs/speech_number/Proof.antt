@@ -7,12 +7,6 @@ use borrow.Author.Needs.{needs}
 use Rattle.coding.proofs.speech_number.Statement.{statement}
 use Rattle.coding.proofs.speech_number.Tie as tie
 
-enum-told : tie.Need-enum-told
-enum-told c = search needs
-
-enum-told-2 : tie.Need-enum-told-2
-enum-told-2 c = search needs
-
 returns : tie.Need-returns
 returns c =
     let a = c .before .before .before .args in
@@ -34,5 +28,4 @@ returns-4 c =
     rw (c .before .enum-told2 .given .1, down-number (a .v) (c .before .before .before .pre), ne-eqb (a .v) 0 (c .if2 .left))
 
 pub speech-number-spec : {M : Type 1} → statement M
-speech-number-spec =
-    tie.close (tie.spec enum-told enum-told-2 returns returns-2 returns-3 returns-4)
+speech-number-spec = tie.close (tie.spec (λ c. search needs) (λ c. search needs) returns returns-2 returns-3 returns-4)

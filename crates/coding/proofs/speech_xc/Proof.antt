@@ -11,12 +11,6 @@ use borrow.Author.Needs.{needs}
 use Rattle.coding.proofs.speech_xc.Statement.{statement}
 use Rattle.coding.proofs.speech_xc.Tie as tie
 
-xc-field-requires : tie.Need-xc-field-requires
-xc-field-requires c κs = search needs
-
-odd-ones-requires : tie.Need-odd-ones-requires
-odd-ones-requires c κs = search needs
-
 speech-number-requires : tie.Need-speech-number-requires
 speech-number-requires c κs = omega (arith, c .before .before .xc-field .ensures .0)
 
@@ -31,6 +25,4 @@ returns-2 c = λ o h.
     xc-even (bitAt o) (x .result) (x .ensures .1 o h) (speechXc (c .before .before .before .args .d)) (sym (odd-packed (x .result) (c .before .odd-ones .result) (bitsAt (bitAt o) xcPlaces) (c .before .odd-ones .ensures) (x .ensures .1 o h)) ∙ c .if1 .left)
 
 pub speech-xc-spec : {M : Type 1} → statement M
-speech-xc-spec =
-    tie.close
-    (tie.spec xc-field-requires odd-ones-requires speech-number-requires returns returns-2)
+speech-xc-spec = tie.close (tie.spec (λ c κs. search needs) (λ c κs. search needs) speech-number-requires returns returns-2)

@@ -7,18 +7,6 @@ use borrow.Author.Needs.{needs}
 use Rattle.coding.proofs.xc_field.Statement.{statement}
 use Rattle.coding.proofs.xc_field.Tie as tie
 
-field-of-requires : tie.Need-field-of-requires
-field-of-requires c κs = search needs
-
-mul-result : tie.Need-mul-result
-mul-result c = search needs
-
-field-of-requires-2 : tie.Need-field-of-requires-2
-field-of-requires-2 c κs = search needs
-
-add-result : tie.Need-add-result
-add-result c = search needs
-
 returns : tie.Need-returns
 returns c =
     let a = c .before .field-of in
@@ -26,5 +14,4 @@ returns c =
     (omega (arith, a .ensures .0, b .ensures .0), λ o h. xc-packed (bitAt o) (a .result) (b .result) (a .ensures .1 (bitAt o) (h .first)) (b .ensures .1 (bitAt o) (h .first)))
 
 pub xc-field-spec : {M : Type 1} → statement M
-xc-field-spec =
-    tie.close (tie.spec field-of-requires mul-result field-of-requires-2 add-result returns)
+xc-field-spec = tie.close (tie.spec (λ c κs. search needs) (λ c. search needs) (λ c κs. search needs) (λ c. search needs) returns)

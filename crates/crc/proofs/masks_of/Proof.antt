@@ -29,9 +29,6 @@ loop-holds c =
     let n : drop (length (c .before .args .places .now)) (c .before .args .places .now) ≡ [] = drop-of-length-le (c .before .args .places .now) {i = length (c .before .args .places .now)} (omega arith) in
     (omega arith, (rw n, rw n, rw n), (rw n parity-none, rw n parity-none, rw n parity-none))
 
-sub-j : tie.Need-sub-j Inv-loop μ-loop
-sub-j c = search needs
-
 shared-slice-read-p : tie.Need-shared-slice-read-p Inv-loop μ-loop
 shared-slice-read-p c = omega (arith, c .before .before .loop .inv .0)
 
@@ -46,9 +43,6 @@ with-tap-requires-2 c κs = (c .before .before .before .before .before .pre (c .
 
 with-tap-requires-3 : tie.Need-with-tap-requires-3 Inv-loop μ-loop
 with-tap-requires-3 c κs = (c .before .before .before .before .before .before .pre (c .before .before .before .before .loop .j - 1) (omega (arith, c .before .before .before .before .loop .inv .0)), omega (arith, c .before .before .before .before .loop .inv .1 .2, toN-lt (power (length (drop (c .before .before .before .before .loop .j) (c .before .before .before .before .before .before .args .places .now))) .r0)))
-
-loop-less : tie.Need-loop-less Inv-loop μ-loop
-loop-less c = search needs
 
 loop-again : tie.Need-loop-again Inv-loop μ-loop
 loop-again c =
@@ -73,16 +67,5 @@ returns c =
 pub masks-of-spec : {M : Type 1} → statement M
 masks-of-spec =
     tie.close
-    (tie.spec
-    Inv-loop
-    μ-loop
-    loop-holds
-    sub-j
-    shared-slice-read-p
-    cast-p
-    with-tap-requires
-    with-tap-requires-2
-    with-tap-requires-3
-    loop-less
-    loop-again
-    returns)
+    (tie.spec Inv-loop μ-loop loop-holds (λ c. search needs) shared-slice-read-p cast-p with-tap-requires with-tap-requires-2 with-tap-requires-3
+    (λ c. search needs) loop-again returns)

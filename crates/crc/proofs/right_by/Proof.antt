@@ -6,30 +6,15 @@ use borrow.Author.Needs.{needs}
 use Rattle.crc.proofs.right_by.Statement.{statement}
 use Rattle.crc.proofs.right_by.Tie as tie
 
-odd-at-requires : tie.Need-odd-at-requires
-odd-at-requires c κs = search needs
-
 returns : tie.Need-returns
 returns c = λ o ps h t.
     let a = c .before .before .before .args in
     right-first (bitAt o) ps (a .m .now) (a .at) (a .w .a) (a .w .b) (a .w .c) h t (c .before .odd-at .result) (c .before .odd-at .ensures) (c .if1 .taken)
 
-add-odd-at : tie.Need-add-odd-at
-add-odd-at c = search needs
-
-odd-at-requires-2 : tie.Need-odd-at-requires-2
-odd-at-requires-2 c κs = search needs
-
 returns-2 : tie.Need-returns-2
 returns-2 c = λ o ps h t.
     let a = c .before .before .before .before .before .args in
     right-second (bitAt o) ps (a .m .now) (a .at) (a .w .a) (a .w .b) (a .w .c) h t (c .before .before .before .odd-at .result) (c .before .odd-at2 .result) (c .before .before .before .odd-at .ensures) (c .before .before .if1 .left) (c .before .odd-at2 .ensures) (c .if2 .taken)
-
-add-odd-at-2 : tie.Need-add-odd-at-2
-add-odd-at-2 c = search needs
-
-odd-at-requires-3 : tie.Need-odd-at-requires-3
-odd-at-requires-3 c κs = search needs
 
 returns-3 : tie.Need-returns-3
 returns-3 c = λ o ps h t.
@@ -39,12 +24,4 @@ returns-3 c = λ o ps h t.
 pub right-by-spec : {M : Type 1} → statement M
 right-by-spec =
     tie.close
-    (tie.spec
-    odd-at-requires
-    returns
-    add-odd-at
-    odd-at-requires-2
-    returns-2
-    add-odd-at-2
-    odd-at-requires-3
-    returns-3)
+    (tie.spec (λ c κs. search needs) returns (λ c. search needs) (λ c κs. search needs) returns-2 (λ c. search needs) (λ c κs. search needs) returns-3)

@@ -9,29 +9,10 @@ use Rattle.bits.specs.Bit.{bitAt}
 use Rattle.channel.specs.Coding.{bitsAt}
 use Rattle.channel.specs.Control.{fromTop}
 use Rattle.dbits.proofs.DBitLaws.{byte-of}
-use Rattle.scatter.proofs.PlaceLaws.{part-below}
-use Rattle.scatter.proofs.PlaceLaws.{eight-part}
+use Rattle.scatter.proofs.PlaceLaws.{part-below, eight-part}
 use borrow.Author.Needs.{needs}
 use Rattle.dbits.proofs.byte_at.Statement.{statement}
 use Rattle.dbits.proofs.byte_at.Tie as tie
-
-mul-least : tie.Need-mul-least
-mul-least c = search needs
-
-least-requires : tie.Need-least-requires
-least-requires c κs = search needs
-
-byte-end-requires : tie.Need-byte-end-requires
-byte-end-requires c κs = search needs
-
-sub-lent-byte : tie.Need-sub-lent-byte
-sub-lent-byte c = search needs
-
-part-lent-byte-start : tie.Need-part-lent-byte-start
-part-lent-byte-start c = search needs
-
-part-lent-byte-end : tie.Need-part-lent-byte-end
-part-lent-byte-end c = search needs
 
 lent-byte-requires : tie.Need-lent-byte-requires
 lent-byte-requires c κs =
@@ -50,12 +31,5 @@ returns c =
 pub byte-at-spec : {M : Type 1} → statement M
 byte-at-spec =
     tie.close
-    (tie.spec
-    mul-least
-    least-requires
-    byte-end-requires
-    sub-lent-byte
-    part-lent-byte-start
-    part-lent-byte-end
-    lent-byte-requires
-    returns)
+    (tie.spec (λ c. search needs) (λ c κs. search needs) (λ c κs. search needs) (λ c. search needs) (λ c. search needs) (λ c. search needs)
+    lent-byte-requires returns)

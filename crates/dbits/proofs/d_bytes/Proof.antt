@@ -15,29 +15,11 @@ use borrow.Author.Needs.{needs}
 use Rattle.dbits.proofs.d_bytes.Statement.{statement}
 use Rattle.dbits.proofs.d_bytes.Tie as tie
 
-d-from-requires : tie.Need-d-from-requires
-d-from-requires c κs = search needs
-
-d-count-requires : tie.Need-d-count-requires
-d-count-requires c κs = search needs
-
 add-to : tie.Need-add-to
 add-to c = omega (arith, c .before .d-from .ensures, c .d-count .ensures, part-end (c .before .before .before .before .args .k))
 
-slice-aggregate-part-bytes : tie.Need-slice-aggregate-part-bytes
-slice-aggregate-part-bytes c = search needs
-
-sub-part-bytes : tie.Need-sub-part-bytes
-sub-part-bytes c = search needs
-
-part-part-bytes-start : tie.Need-part-part-bytes-start
-part-part-bytes-start c = search needs
-
 part-part-bytes-end : tie.Need-part-part-bytes-end
 part-part-bytes-end c = omega (arith, c .before .before .d-from .ensures, c .before .d-count .ensures, part-end (c .before .before .before .before .before .args .k), ap length (c .before .before .before .before .before .pre .table), all-length)
-
-plan-from-requires : tie.Need-plan-from-requires
-plan-from-requires c κs = search needs
 
 part-bytes-requires : tie.Need-part-bytes-requires
 part-bytes-requires c κs =
@@ -55,14 +37,5 @@ returns c =
 pub d-bytes-spec : {M : Type 1} → statement M
 d-bytes-spec =
     tie.close
-    (tie.spec
-    d-from-requires
-    d-count-requires
-    add-to
-    slice-aggregate-part-bytes
-    sub-part-bytes
-    part-part-bytes-start
-    part-part-bytes-end
-    plan-from-requires
-    part-bytes-requires
-    returns)
+    (tie.spec (λ c κs. search needs) (λ c κs. search needs) add-to (λ c. search needs) (λ c. search needs) (λ c. search needs) part-part-bytes-end
+    (λ c κs. search needs) part-bytes-requires returns)

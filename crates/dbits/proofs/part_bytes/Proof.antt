@@ -35,17 +35,5 @@ returns-3 c =
 pub part-bytes-spec : {M : Type 1} → statement M
 part-bytes-spec =
     tie.close
-    (tie.spec
-    (λ c. search needs)
-    (λ c. search needs)
-    (λ c. search needs)
-    (λ c. search needs)
-    cast-odd
-    (λ c. search needs)
-    (λ c κs. search needs)
-    (λ c. search needs)
-    quick-bytes-requires
-    returns-2
-    (λ c κs. search needs)
-    (λ c. search needs)
-    returns-3)
+    (tie.spec (λ c. search needs) (λ c. search needs) (λ c. search needs) (λ c. search needs) cast-odd (λ c. search needs) (λ c κs. search needs)
+    (λ c. search needs) quick-bytes-requires returns-2 (λ c κs. search needs) (λ c. search needs) returns-3)

@@ -92,27 +92,6 @@ returns-2 c = let e : c .before .before .loop .j ≡ c .before .before .before .
 pub quick-bytes-spec : {M : Type 1} → statement M
 quick-bytes-spec =
     tie.close
-    (tie.spec
-    Inv-loop
-    μ-loop
-    loop-holds
-    add-loop
-    mul-quick-byte
-    add-quick-byte
-    quick-byte-requires
-    array-write-out
-    add-quick-byte-2
-    mul-quick-byte-2
-    add-quick-byte-3
-    quick-byte-requires-2
-    add-out
-    array-write-out-2
-    add-j
-    loop-less
-    loop-again
-    mul-quick-byte-3
-    add-quick-byte-4
-    quick-byte-requires-3
-    array-write-out-3
-    returns
-    returns-2)
+    (tie.spec Inv-loop μ-loop loop-holds add-loop mul-quick-byte add-quick-byte quick-byte-requires array-write-out add-quick-byte-2 mul-quick-byte-2
+    add-quick-byte-3 quick-byte-requires-2 add-out array-write-out-2 add-j loop-less loop-again mul-quick-byte-3 add-quick-byte-4
+    quick-byte-requires-3 array-write-out-3 returns returns-2)

@@ -43,15 +43,4 @@ returns : tie.Need-returns Inv-loop μ-loop
 returns c = let e : c .before .loop .j ≡ 19 = omega (arith, c .before .loop .inv .0) in rw e at (c .before .loop .inv .1)
 
 pub slow-bytes-spec : {M : Type 1} → statement M
-slow-bytes-spec =
-    tie.close
-    (tie.spec
-    Inv-loop
-    μ-loop
-    loop-holds
-    byte-at-requires
-    array-write-out
-    add-j
-    loop-less
-    loop-again
-    returns)
+slow-bytes-spec = tie.close (tie.spec Inv-loop μ-loop loop-holds byte-at-requires array-write-out add-j loop-less loop-again returns)

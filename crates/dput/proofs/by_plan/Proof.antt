@@ -24,26 +24,11 @@ abbrev μ-loop : tie.MeasureT-loop
 loop-holds : tie.Need-loop-holds Inv-loop μ-loop
 loop-holds c = (omega arith, omega arith, refl, λ k. omega (arith, c .before .before .slice-known .given k), λ ps h. refl)
 
-mul-quick-put : tie.Need-mul-quick-put Inv-loop μ-loop
-mul-quick-put c = search needs
-
-add-quick-put : tie.Need-add-quick-put Inv-loop μ-loop
-add-quick-put c = search needs
-
-shared-slice-read-quick-put : tie.Need-shared-slice-read-quick-put Inv-loop μ-loop
-shared-slice-read-quick-put c = search needs
-
 quick-put-requires : tie.Need-quick-put-requires Inv-loop μ-loop
 quick-put-requires c κs =
     let r = c .before .before .before .before .before .before .before .pre in
     let l = c .before .before .before .loop in
     (l .inv .2 ∙ r .0, omega arith, r .6 (l .j) (c .before .before .loop-test .taken))
-
-add-j : tie.Need-add-j Inv-loop μ-loop
-add-j c = search needs
-
-loop-less : tie.Need-loop-less Inv-loop μ-loop
-loop-less c = search needs
 
 loop-again : tie.Need-loop-again Inv-loop μ-loop
 loop-again c =
@@ -70,16 +55,5 @@ returns c = let l = c .before .loop in let e : l .j ≡ c .before .before .befor
 pub by-plan-spec : {M : Type 1} → statement M
 by-plan-spec =
     tie.close
-    (tie.spec
-    Inv-loop
-    μ-loop
-    loop-holds
-    mul-quick-put
-    add-quick-put
-    shared-slice-read-quick-put
-    quick-put-requires
-    add-j
-    loop-less
-    loop-again
-    same-length
-    returns)
+    (tie.spec Inv-loop μ-loop loop-holds (λ c. search needs) (λ c. search needs) (λ c. search needs) quick-put-requires (λ c. search needs)
+    (λ c. search needs) loop-again same-length returns)

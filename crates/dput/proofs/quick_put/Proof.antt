@@ -11,41 +11,11 @@ use borrow.Author.Needs.{needs}
 use Rattle.dput.proofs.quick_put.Statement.{statement}
 use Rattle.dput.proofs.quick_put.Tie as tie
 
-mul-m : tie.Need-mul-m
-mul-m c = search needs
-
-shared-slice-read-m : tie.Need-shared-slice-read-m
-shared-slice-read-m c = search needs
-
-cast-a : tie.Need-cast-a
-cast-a c = search needs
-
-slice-read-first : tie.Need-slice-read-first
-slice-read-first c = search needs
-
 cast-first : tie.Need-cast-first
 cast-first c = omega (arith, c .slice-known .given (getD (c .before .before .args .plan .now) (c .before .before .args .at) 0 % 256))
 
-add-second : tie.Need-add-second
-add-second c = search needs
-
-slice-read-second : tie.Need-slice-read-second
-slice-read-second c = search needs
-
 cast-second : tie.Need-cast-second
 cast-second c = omega (arith, c .slice-known2 .given (getD (c .before .before .before .args .plan .now) (c .before .before .before .args .at) 0 % 256 + 1))
-
-shl-moved : tie.Need-shl-moved
-shl-moved c = search needs
-
-shr-rest : tie.Need-shr-rest
-shr-rest c = search needs
-
-shr-o : tie.Need-shr-o
-shr-o c = search needs
-
-shl-o : tie.Need-shl-o
-shl-o c = search needs
 
 add-o : tie.Need-add-o
 add-o c =
@@ -56,12 +26,6 @@ add-o c =
     let hs : m / 65536 % 16 < 16 = omega arith in
     let cut = cut-exact x (m / 65536 % 16) hx hs in
     omega arith
-
-cast-o : tie.Need-cast-o
-cast-o c = search needs
-
-slice-write-o : tie.Need-slice-write-o
-slice-write-o c = search needs
 
 sub-o : tie.Need-sub-o
 sub-o c = and-le-l _ _
@@ -75,17 +39,8 @@ add-o-2 c =
     let hy : y < 256 = omega (arith, c .slice-known2 .given (m % 256 + 1)) in
     omega (arith, and-le-l y (m / 16777216), and-le-l (z / 2 ^ (m / 1048576 % 16)) (m / 16777216), shr-le z (m / 1048576 % 16))
 
-cast-o-2 : tie.Need-cast-o-2
-cast-o-2 c = search needs
-
-add-o-3 : tie.Need-add-o-3
-add-o-3 c = search needs
-
 slice-write-o-2 : tie.Need-slice-write-o-2
 slice-write-o-2 c = simp length-set (omega arith)
-
-same-length : tie.Need-same-length
-same-length c = search needs
 
 returns : tie.Need-returns
 unfolding back
@@ -101,26 +56,6 @@ returns c =
 pub quick-put-spec : {M : Type 1} → statement M
 quick-put-spec =
     tie.close
-    (tie.spec
-    mul-m
-    shared-slice-read-m
-    cast-a
-    slice-read-first
-    cast-first
-    add-second
-    slice-read-second
-    cast-second
-    shl-moved
-    shr-rest
-    shr-o
-    shl-o
-    add-o
-    cast-o
-    slice-write-o
-    sub-o
-    add-o-2
-    cast-o-2
-    add-o-3
-    slice-write-o-2
-    same-length
-    returns)
+    (tie.spec (λ c. search needs) (λ c. search needs) (λ c. search needs) (λ c. search needs) cast-first (λ c. search needs) (λ c. search needs)
+    cast-second (λ c. search needs) (λ c. search needs) (λ c. search needs) (λ c. search needs) add-o (λ c. search needs) (λ c. search needs) sub-o
+    add-o-2 (λ c. search needs) (λ c. search needs) slice-write-o-2 (λ c. search needs) returns)

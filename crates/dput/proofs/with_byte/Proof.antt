@@ -8,35 +8,10 @@ use native.Mathlib.Omega.{arith}
 use borrow.Author.Needs.{needs}
 use lib.ListN.{length, take, drop, length-take, length-drop}
 use Rattle.bits.specs.Bit.{bitAt}
-use Rattle.scatter.proofs.PlaceLaws.{part-below}
-use Rattle.scatter.proofs.PlaceLaws.{eight-part}
+use Rattle.scatter.proofs.PlaceLaws.{part-below, eight-part}
 use Rattle.dput.proofs.RestLaws.{byte-turn, byte-front}
 use Rattle.dput.proofs.with_byte.Statement.{statement}
 use Rattle.dput.proofs.with_byte.Tie as tie
-
-byte-end-requires : tie.Need-byte-end-requires
-byte-end-requires c κs = search needs
-
-mul-at-places : tie.Need-mul-at-places
-mul-at-places c = search needs
-
-sub-at-places : tie.Need-sub-at-places
-sub-at-places c = search needs
-
-part-at-places-start : tie.Need-part-at-places-start
-part-at-places-start c = search needs
-
-part-at-places-end : tie.Need-part-at-places-end
-part-at-places-end c = search needs
-
-sub-at-places-2 : tie.Need-sub-at-places-2
-sub-at-places-2 c = search needs
-
-part-at-places-start-2 : tie.Need-part-at-places-start-2
-part-at-places-start-2 c = search needs
-
-part-at-places-end-2 : tie.Need-part-at-places-end-2
-part-at-places-end-2 c = search needs
 
 at-places-requires : tie.Need-at-places-requires
 at-places-requires c κs =
@@ -57,14 +32,5 @@ returns c =
 pub with-byte-spec : {M : Type 1} → statement M
 with-byte-spec =
     tie.close
-    (tie.spec
-    byte-end-requires
-    mul-at-places
-    sub-at-places
-    part-at-places-start
-    part-at-places-end
-    sub-at-places-2
-    part-at-places-start-2
-    part-at-places-end-2
-    at-places-requires
-    returns)
+    (tie.spec (λ c κs. search needs) (λ c. search needs) (λ c. search needs) (λ c. search needs) (λ c. search needs) (λ c. search needs)
+    (λ c. search needs) (λ c. search needs) at-places-requires returns)

@@ -13,26 +13,11 @@ use borrow.Author.Needs.{needs}
 use Rattle.dput.proofs.with_d.Statement.{statement}
 use Rattle.dput.proofs.with_d.Tie as tie
 
-d-from-requires : tie.Need-d-from-requires
-d-from-requires c κs = search needs
-
-d-count-requires : tie.Need-d-count-requires
-d-count-requires c κs = search needs
-
 add-to : tie.Need-add-to
 add-to c = omega (arith, c .before .d-from .ensures, c .d-count .ensures, part-end (c .before .before .before .before .before .args .k))
 
-sub-with-part : tie.Need-sub-with-part
-sub-with-part c = search needs
-
-part-with-part-start : tie.Need-part-with-part-start
-part-with-part-start c = search needs
-
 part-with-part-end : tie.Need-part-with-part-end
 part-with-part-end c = omega (arith, c .before .d-from .ensures, c .d-count .ensures, part-end (c .before .before .before .before .before .args .k), ap length (c .before .before .before .before .before .pre .1 .table), all-length)
-
-plan-from-requires : tie.Need-plan-from-requires
-plan-from-requires c κs = search needs
 
 with-part-requires : tie.Need-with-part-requires
 with-part-requires c κs =
@@ -57,13 +42,5 @@ returns c =
 pub with-d-spec : {M : Type 1} → statement M
 with-d-spec =
     tie.close
-    (tie.spec
-    d-from-requires
-    d-count-requires
-    add-to
-    sub-with-part
-    part-with-part-start
-    part-with-part-end
-    plan-from-requires
-    with-part-requires
-    returns)
+    (tie.spec (λ c κs. search needs) (λ c κs. search needs) add-to (λ c. search needs) (λ c. search needs) part-with-part-end (λ c κs. search needs)
+    with-part-requires returns)

@@ -53,22 +53,6 @@ returns-3 c =
 pub with-part-spec : {M : Type 1} → statement M
 with-part-spec =
     tie.close
-    (tie.spec
-    (λ c. search needs)
-    (λ c. search needs)
-    (λ c. search needs)
-    (λ c. search needs)
-    cast-odd
-    (λ c. search needs)
-    (λ c κs. search needs)
-    (λ c. search needs)
-    (λ c. search needs)
-    by-plan-requires
-    returns-2
-    (λ c. search needs)
-    by-plan-requires-2
-    (λ c κs. search needs)
-    (λ c. search needs)
-    (λ c. search needs)
-    by-plan-requires-3
-    returns-3)
+    (tie.spec (λ c. search needs) (λ c. search needs) (λ c. search needs) (λ c. search needs) cast-odd (λ c. search needs) (λ c κs. search needs)
+    (λ c. search needs) (λ c. search needs) by-plan-requires returns-2 (λ c. search needs) by-plan-requires-2 (λ c κs. search needs)
+    (λ c. search needs) (λ c. search needs) by-plan-requires-3 returns-3)

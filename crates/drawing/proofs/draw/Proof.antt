@@ -18,9 +18,6 @@ Inv-loop out₀ at k title end₀ octet₀ out end octet = Put out₀ end₀ (oc
 abbrev μ-loop : tie.MeasureT-loop
 μ-loop out₀ at k title end₀ octet₀ out end octet = 20 - octet
 
-put-heading-requires : tie.Need-put-heading-requires Inv-loop μ-loop
-put-heading-requires c κs = search needs
-
 loop-holds : tie.Need-loop-holds Inv-loop μ-loop
 loop-holds c =
     let h = c .before .before .put-heading in
@@ -32,12 +29,6 @@ put-octet-requires c κs =
     let h = c .before .before .before .before .before .put-heading in
     let a = c .before .before .before .before .before .before .before .before .before .args in
     (omega arith, omega (arith, c .before .before .before .before .before .before .before .before .before .pre, h .ensures .ends, heading-short (a .k) (a .title .now), h .kept .0, l .inv .0 .ends, octets-long (a .k) (l .octet), l .inv .1))
-
-add-octet : tie.Need-add-octet Inv-loop μ-loop
-add-octet c = search needs
-
-loop-less : tie.Need-loop-less Inv-loop μ-loop
-loop-less c = search needs
 
 loop-again : tie.Need-loop-again Inv-loop μ-loop
 loop-again c =
@@ -59,14 +50,5 @@ returns c =
 pub draw-spec : {M : Type 1} → statement M
 draw-spec =
     tie.close
-    (tie.spec
-    Inv-loop
-    μ-loop
-    put-heading-requires
-    loop-holds
-    put-octet-requires
-    add-octet
-    loop-less
-    loop-again
-    same-length
+    (tie.spec Inv-loop μ-loop (λ c κs. search needs) loop-holds put-octet-requires (λ c. search needs) (λ c. search needs) loop-again same-length
     returns)

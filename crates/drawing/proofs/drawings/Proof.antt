@@ -8,45 +8,6 @@ use Rattle.drawing.specs.Drawing.{allDrawings}
 use Rattle.drawing.proofs.drawings.Statement.{statement}
 use Rattle.drawing.proofs.drawings.Tie as tie
 
-slice-aggregate-draw : tie.Need-slice-aggregate-draw
-slice-aggregate-draw c = search needs
-
-draw-requires : tie.Need-draw-requires
-draw-requires c κs = search needs
-
-slice-aggregate-draw-2 : tie.Need-slice-aggregate-draw-2
-slice-aggregate-draw-2 c = search needs
-
-draw-requires-2 : tie.Need-draw-requires-2
-draw-requires-2 c κs = search needs
-
-slice-aggregate-draw-3 : tie.Need-slice-aggregate-draw-3
-slice-aggregate-draw-3 c = search needs
-
-draw-requires-3 : tie.Need-draw-requires-3
-draw-requires-3 c κs = search needs
-
-slice-aggregate-draw-4 : tie.Need-slice-aggregate-draw-4
-slice-aggregate-draw-4 c = search needs
-
-draw-requires-4 : tie.Need-draw-requires-4
-draw-requires-4 c κs = search needs
-
-slice-aggregate-draw-5 : tie.Need-slice-aggregate-draw-5
-slice-aggregate-draw-5 c = search needs
-
-draw-requires-5 : tie.Need-draw-requires-5
-draw-requires-5 c κs = search needs
-
-slice-aggregate-draw-6 : tie.Need-slice-aggregate-draw-6
-slice-aggregate-draw-6 c = search needs
-
-draw-requires-6 : tie.Need-draw-requires-6
-draw-requires-6 c κs = search needs
-
-slice-aggregate-draw-7 : tie.Need-slice-aggregate-draw-7
-slice-aggregate-draw-7 c = search needs
-
 draw-requires-7 : tie.Need-draw-requires-7
 draw-requires-7 c κs =
     let d1 = c .before .before .before .before .before .before .before .before .before .before .before .before .before .before .before .before .before .before .before .before .before .before .before .before .before .before .before .before .before .draw in
@@ -56,9 +17,6 @@ draw-requires-7 c κs =
     let d5 = c .before .before .before .before .before .before .before .before .before .draw5 in
     let d6 = c .before .before .before .before .draw6 in
     omega (arith, c .before .before .before .before .before .before .before .before .before .before .before .before .before .before .before .before .before .before .before .before .before .before .before .before .before .before .before .before .before .before .before .before .before .pre, d1 .ensures .0, d1 .kept .0, d2 .ensures .0, d2 .kept .0, d3 .ensures .0, d3 .kept .0, d4 .ensures .0, d4 .kept .0, d5 .ensures .0, d5 .kept .0, d6 .ensures .0, d6 .kept .0)
-
-slice-aggregate-draw-8 : tie.Need-slice-aggregate-draw-8
-slice-aggregate-draw-8 c = search needs
 
 draw-requires-8 : tie.Need-draw-requires-8
 draw-requires-8 c κs =
@@ -99,22 +57,6 @@ returns c =
 pub drawings-spec : {M : Type 1} → statement M
 drawings-spec =
     tie.close
-    (tie.spec
-    slice-aggregate-draw
-    draw-requires
-    slice-aggregate-draw-2
-    draw-requires-2
-    slice-aggregate-draw-3
-    draw-requires-3
-    slice-aggregate-draw-4
-    draw-requires-4
-    slice-aggregate-draw-5
-    draw-requires-5
-    slice-aggregate-draw-6
-    draw-requires-6
-    slice-aggregate-draw-7
-    draw-requires-7
-    slice-aggregate-draw-8
-    draw-requires-8
-    same-length
-    returns)
+    (tie.spec (λ c. search needs) (λ c κs. search needs) (λ c. search needs) (λ c κs. search needs) (λ c. search needs) (λ c κs. search needs)
+    (λ c. search needs) (λ c κs. search needs) (λ c. search needs) (λ c κs. search needs) (λ c. search needs) (λ c κs. search needs)
+    (λ c. search needs) draw-requires-7 (λ c. search needs) draw-requires-8 same-length returns)

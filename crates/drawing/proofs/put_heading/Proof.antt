@@ -7,42 +7,6 @@ use Rattle.text.proofs.TextLaws.{put-put}
 use Rattle.drawing.proofs.put_heading.Statement.{statement}
 use Rattle.drawing.proofs.put_heading.Tie as tie
 
-put-requires : tie.Need-put-requires
-put-requires c κs = search needs
-
-body-requires : tie.Need-body-requires
-body-requires c κs = search needs
-
-put-decimal-requires : tie.Need-put-decimal-requires
-put-decimal-requires c κs = search needs
-
-slice-aggregate-put : tie.Need-slice-aggregate-put
-slice-aggregate-put c = search needs
-
-put-requires-2 : tie.Need-put-requires-2
-put-requires-2 c κs = search needs
-
-least-tail-requires : tie.Need-least-tail-requires
-least-tail-requires c κs = search needs
-
-put-decimal-requires-2 : tie.Need-put-decimal-requires-2
-put-decimal-requires-2 c κs = search needs
-
-slice-aggregate-put-2 : tie.Need-slice-aggregate-put-2
-slice-aggregate-put-2 c = search needs
-
-put-requires-3 : tie.Need-put-requires-3
-put-requires-3 c κs = search needs
-
-least-tail-requires-2 : tie.Need-least-tail-requires-2
-least-tail-requires-2 c κs = search needs
-
-put-decimal-requires-3 : tie.Need-put-decimal-requires-3
-put-decimal-requires-3 c κs = search needs
-
-slice-aggregate-put-3 : tie.Need-slice-aggregate-put-3
-slice-aggregate-put-3 c = search needs
-
 put-requires-4 : tie.Need-put-requires-4
 put-requires-4 c κs =
     let p1 = c .before .before .before .before .before .before .before .before .before .before .before .before .before .before .before .before .before .before .before .before .before .before .before .before .before .before .before .before .before .put in
@@ -82,19 +46,6 @@ returns c =
 pub put-heading-spec : {M : Type 1} → statement M
 put-heading-spec =
     tie.close
-    (tie.spec
-    put-requires
-    body-requires
-    put-decimal-requires
-    slice-aggregate-put
-    put-requires-2
-    least-tail-requires
-    put-decimal-requires-2
-    slice-aggregate-put-2
-    put-requires-3
-    least-tail-requires-2
-    put-decimal-requires-3
-    slice-aggregate-put-3
-    put-requires-4
-    same-length
-    returns)
+    (tie.spec (λ c κs. search needs) (λ c κs. search needs) (λ c κs. search needs) (λ c. search needs) (λ c κs. search needs) (λ c κs. search needs)
+    (λ c κs. search needs) (λ c. search needs) (λ c κs. search needs) (λ c κs. search needs) (λ c κs. search needs) (λ c. search needs) put-requires-4
+    same-length returns)

@@ -4,12 +4,12 @@ use mathlib.Core.Path.{_≡_, refl, _∙_, ap}
 use Prim.Native.Nat.{_-_, _≤_}
 use native.Mathlib.Omega.{arith}
 use borrow.Author.Needs.{needs}
-use lib.ListN.{length}
+use lib.ListN.{length, drop}
 use Rattle.text.specs.Text.{Put}
 use Rattle.text.proofs.TextLaws.{put-none, put-put}
 use Rattle.drawing.specs.Names.{nameOf}
 use Rattle.drawing.specs.Drawing.{namesOf}
-use Rattle.drawing.proofs.DrawingLaws.{name-long, names-long, number-long, number-put, names-next}
+use Rattle.drawing.proofs.DrawingLaws.{name-long, names-long, two-columns, number-put, names-next}
 use Rattle.drawing.proofs.put_octet.Statement.{statement}
 use Rattle.drawing.proofs.put_octet.Tie as tie
 
@@ -20,43 +20,10 @@ Inv-loop out₀ at k octet end₀ i₀ t9 out end i =
 abbrev μ-loop : tie.MeasureT-loop
 μ-loop out₀ at k octet end₀ i₀ t9 out end i = 8 - i
 
-add-lettered : tie.Need-add-lettered Inv-loop μ-loop
-add-lettered c = search needs
-
-lettered-requires : tie.Need-lettered-requires Inv-loop μ-loop
-lettered-requires c κs = search needs
-
-sub-put : tie.Need-sub-put Inv-loop μ-loop
-sub-put c = search needs
-
-part-put-start : tie.Need-part-put-start Inv-loop μ-loop
-part-put-start c = search needs
-
-part-put-end : tie.Need-part-put-end Inv-loop μ-loop
-part-put-end c = search needs
-
-put-requires : tie.Need-put-requires Inv-loop μ-loop
-put-requires c κs = search needs
-
 loop-holds : tie.Need-loop-holds Inv-loop μ-loop
 loop-holds c =
     let p = c .before .before .put in
     (put-none (p .last .0) (p .result) (p .ensures .within .0), refl, omega arith)
-
-mul-cell-at : tie.Need-mul-cell-at Inv-loop μ-loop
-mul-cell-at c = search needs
-
-add-cell-at : tie.Need-add-cell-at Inv-loop μ-loop
-add-cell-at c = search needs
-
-cell-at-requires : tie.Need-cell-at-requires Inv-loop μ-loop
-cell-at-requires c κs = search needs
-
-name-requires : tie.Need-name-requires Inv-loop μ-loop
-name-requires c κs = search needs
-
-slice-aggregate-put : tie.Need-slice-aggregate-put Inv-loop μ-loop
-slice-aggregate-put c = search needs
 
 put-requires-2 : tie.Need-put-requires-2 Inv-loop μ-loop
 put-requires-2 c κs =
@@ -65,13 +32,7 @@ put-requires-2 c κs =
     let a = c .before .before .before .before .before .before .before .before .before .before .before .before .before .before .args in
     let n = c .before .before .name in
     omega
-    (arith, c .before .before .before .before .before .before .before .before .before .before .before .before .before .before .pre .1, number-put (a .octet) (c .before .before .before .before .before .before .before .before .before .before .before .before .lettered .ensures) (p .ensures) .ends, number-long (a .octet), p .kept .0, l .inv .0 .ends, names-long (a .k) (a .octet) (l .i), l .inv .1, ap length (n .ensures), name-long (c .before .before .before .cell-at .result))
-
-add-i : tie.Need-add-i Inv-loop μ-loop
-add-i c = search needs
-
-loop-less : tie.Need-loop-less Inv-loop μ-loop
-loop-less c = search needs
+    (arith, c .before .before .before .before .before .before .before .before .before .before .before .before .before .before .pre .1, p .ensures .ends, two-columns (drop 3 (c .before .before .before .before .before .before .before .before .before .before .before .before .lettered .result)), p .kept .0, l .inv .0 .ends, names-long (a .k) (a .octet) (l .i), l .inv .1, ap length (n .ensures), name-long (c .before .before .before .cell-at .result))
 
 loop-again : tie.Need-loop-again Inv-loop μ-loop
 loop-again c =
@@ -90,7 +51,7 @@ put-requires-3 c κs =
     let p = c .before .before .before .before .before .before .put in
     let a = c .before .before .before .before .before .before .before .before .before .before .before .before .args in
     omega
-    (arith, c .before .before .before .before .before .before .before .before .before .before .before .before .pre .1, number-put (a .octet) (c .before .before .before .before .before .before .before .before .before .before .lettered .ensures) (p .ensures) .ends, number-long (a .octet), p .kept .0, l .inv .0 .ends, names-long (a .k) (a .octet) (l .i), l .inv .1)
+    (arith, c .before .before .before .before .before .before .before .before .before .before .before .before .pre .1, p .ensures .ends, two-columns (drop 3 (c .before .before .before .before .before .before .before .before .before .before .lettered .result)), p .kept .0, l .inv .0 .ends, names-long (a .k) (a .octet) (l .i), l .inv .1)
 
 same-length : tie.Need-same-length Inv-loop μ-loop
 same-length c = c .before .before .put3 .kept .0 ∙ c .before .before .before .before .before .before .loop .inv .1 ∙ c .before .before .before .before .before .before .before .before .before .put .kept .0
@@ -104,26 +65,6 @@ returns c =
 pub put-octet-spec : {M : Type 1} → statement M
 put-octet-spec =
     tie.close
-    (tie.spec
-    Inv-loop
-    μ-loop
-    add-lettered
-    lettered-requires
-    sub-put
-    part-put-start
-    part-put-end
-    put-requires
-    loop-holds
-    mul-cell-at
-    add-cell-at
-    cell-at-requires
-    name-requires
-    slice-aggregate-put
-    put-requires-2
-    add-i
-    loop-less
-    loop-again
-    slice-aggregate-put-2
-    put-requires-3
-    same-length
-    returns)
+    (tie.spec Inv-loop μ-loop (λ c. search needs) (λ c κs. search needs) (λ c. search needs) (λ c. search needs) (λ c. search needs)
+    (λ c κs. search needs) loop-holds (λ c. search needs) (λ c. search needs) (λ c κs. search needs) (λ c κs. search needs) (λ c. search needs)
+    put-requires-2 (λ c. search needs) (λ c. search needs) loop-again slice-aggregate-put-2 put-requires-3 same-length returns)

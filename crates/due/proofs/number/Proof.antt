@@ -12,23 +12,11 @@ returns c =
     let a = c .before .before .before .before .args in
     (number-start (a .r) (a .k) (a .c) (a .bits) (c .if1 .taken), c .before .before .before .before .pre .2)
 
-verdict-in-requires : tie.Need-verdict-in-requires
-verdict-in-requires c κs = search needs
-
-same-length : tie.Need-same-length
-same-length c = search needs
-
 returns-2 : tie.Need-returns-2
 returns-2 c =
     let a = c .before .before .before .before .before .before .before .before .before .args in
     let due = c .before .before .before .verdict-in in
     (number-verdict (a .r) (a .k) (a .c) (a .bits) (c .before .before .before .before .before .if1 .left) (due .result) (due .ensures .0) (c .if2 .taken), due .ensures .1)
-
-allowed-in-requires : tie.Need-allowed-in-requires
-allowed-in-requires c κs = search needs
-
-same-length-2 : tie.Need-same-length-2
-same-length-2 c = search needs
 
 returns-3 : tie.Need-returns-3
 returns-3 c =
@@ -37,17 +25,11 @@ returns-3 c =
     let rule = c .before .allowed-in in
     (number-rule (a .r) (a .k) (a .c) (a .bits) (c .before .before .before .before .before .before .before .if1 .left) (due .result) (due .ensures .0) (c .before .before .if2 .left) (rule .result) (rule .ensures) (c .if3 .taken), due .ensures .1)
 
-body-requires : tie.Need-body-requires
-body-requires c κs = search needs
-
 add-if4 : tie.Need-add-if4
 add-if4 c = omega (arith, c .body .ensures, body-high (c .before .before .before .before .before .before .before .before .before .before .before .before .args .k))
 
 add-if4-2 : tie.Need-add-if4-2
 add-if4-2 c = omega (arith, c .body .ensures, body-high (c .before .before .before .before .before .before .before .before .before .before .before .before .args .k))
-
-same-length-3 : tie.Need-same-length-3
-same-length-3 c = search needs
 
 returns-4 : tie.Need-returns-4
 returns-4 c =
@@ -58,9 +40,6 @@ returns-4 c =
       number-past (a .r) (a .k) (a .c) (a .bits) (c .before .before .before .before .before .before .before .before .before .if1 .left) (due .result) (due .ensures .0) (c .before .before .before .before .if2 .left) (rule .result) (rule .ensures) (c .before .before .if3 .left) (body .result) (body .ensures) (c .if4 .taken),
       due .ensures .1,
     )
-
-same-length-4 : tie.Need-same-length-4
-same-length-4 c = search needs
 
 returns-5 : tie.Need-returns-5
 returns-5 c =
@@ -75,18 +54,5 @@ returns-5 c =
 pub number-spec : {M : Type 1} → statement M
 number-spec =
     tie.close
-    (tie.spec
-    returns
-    verdict-in-requires
-    same-length
-    returns-2
-    allowed-in-requires
-    same-length-2
-    returns-3
-    body-requires
-    add-if4
-    add-if4-2
-    same-length-3
-    returns-4
-    same-length-4
-    returns-5)
+    (tie.spec returns (λ c κs. search needs) (λ c. search needs) returns-2 (λ c κs. search needs) (λ c. search needs) returns-3 (λ c κs. search needs)
+    add-if4 add-if4-2 (λ c. search needs) returns-4 (λ c. search needs) returns-5)

@@ -12,35 +12,11 @@ use Rattle.entries.proofs.back_of.Tie as tie
 mask-small : (x y e r : ℕ) → x ≡ 2 ^ (8 - e) → y ≡ 2 ^ (8 - e - r) → x - y ≤ 255
 mask-small x y e r ex ey = omega (arith, ex, ey, pow-mono {i = 8 - e} {j = 8} (omega arith), pow-pos (8 - e - r))
 
-sub-weight : tie.Need-sub-weight
-sub-weight c = search needs
-
-weight-requires : tie.Need-weight-requires
-weight-requires c κs = search needs
-
-sub-weight-2 : tie.Need-sub-weight-2
-sub-weight-2 c = search needs
-
-sub-weight-3 : tie.Need-sub-weight-3
-sub-weight-3 c = search needs
-
-weight-requires-2 : tie.Need-weight-requires-2
-weight-requires-2 c κs = search needs
-
 sub-result : tie.Need-sub-result
 sub-result c = rw (c .weight2 .ensures, c .before .weight .ensures) (pow-mono (omega arith))
 
 mul-result : tie.Need-mul-result
 mul-result c = let small = mask-small (c .before .weight .result) (c .weight2 .result) (c .before .before .args .e) (c .before .before .args .r) (c .before .weight .ensures) (c .weight2 .ensures) in omega arith
-
-mul-result-2 : tie.Need-mul-result-2
-mul-result-2 c = search needs
-
-add-result : tie.Need-add-result
-add-result c = search needs
-
-cast-result : tie.Need-cast-result
-cast-result c = search needs
 
 add-result-2 : tie.Need-add-result-2
 add-result-2 c = let small = mask-small (c .before .weight .result) (c .weight2 .result) (c .before .before .args .e) (c .before .before .args .r) (c .before .weight .ensures) (c .weight2 .ensures) in omega arith
@@ -51,16 +27,5 @@ returns c = let small = mask-small (c .before .weight .result) (c .weight2 .resu
 pub back-of-spec : {M : Type 1} → statement M
 back-of-spec =
     tie.close
-    (tie.spec
-    sub-weight
-    weight-requires
-    sub-weight-2
-    sub-weight-3
-    weight-requires-2
-    sub-result
-    mul-result
-    mul-result-2
-    add-result
-    cast-result
-    add-result-2
-    returns)
+    (tie.spec (λ c. search needs) (λ c κs. search needs) (λ c. search needs) (λ c. search needs) (λ c κs. search needs) sub-result mul-result
+    (λ c. search needs) (λ c. search needs) (λ c. search needs) add-result-2 returns)

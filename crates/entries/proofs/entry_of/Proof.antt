@@ -44,25 +44,6 @@ second-run-requires-2 c κs =
 pub entry-of-spec : {M : Type 1} → statement M
 entry-of-spec =
     tie.close
-    (tie.spec
-    (λ c. search needs)
-    cast-p
-    (λ c. search needs)
-    (λ c κs. search needs)
-    returns
-    (λ c. search needs)
-    second-run-requires
-    (λ c. search needs)
-    (λ c. search needs)
-    (λ c. search needs)
-    cast-if3
-    add-if3
-    (λ c. search needs)
-    (λ c κs. search needs)
-    returns-3
-    (λ c κs. search needs)
-    returns-4
-    (λ c. search needs)
-    (λ c κs. search needs)
-    second-run-requires-2
-    (λ c. search needs))
+    (tie.spec (λ c. search needs) cast-p (λ c. search needs) (λ c κs. search needs) returns (λ c. search needs) second-run-requires
+    (λ c. search needs) (λ c. search needs) (λ c. search needs) cast-if3 add-if3 (λ c. search needs) (λ c κs. search needs) returns-3
+    (λ c κs. search needs) returns-4 (λ c. search needs) (λ c κs. search needs) second-run-requires-2 (λ c. search needs))

@@ -49,36 +49,8 @@ returns-4 c =
 pub second-run-spec : {M : Type 1} → statement M
 second-run-spec =
     tie.close
-    (tie.spec
-    (λ c. search needs)
-    cast-q
-    (λ c. search needs)
-    (λ c κs. search needs)
-    returns
-    (λ c. search needs)
-    (λ c. search needs)
-    (λ c κs. search needs)
-    returns-2
-    (λ c. search needs)
-    (λ c. search needs)
-    cast-if3
-    (λ c. search needs)
-    (λ c. search needs)
-    (λ c. search needs)
-    (λ c κs. search needs)
-    returns-3
-    (λ c. search needs)
-    (λ c κs. search needs)
-    (λ c. search needs)
-    (λ c κs. search needs)
-    sub-mask
-    (λ c. search needs)
-    add-t18
-    (λ c. search needs)
-    (λ c κs. search needs)
-    (λ c. search needs)
-    add-t21
-    (λ c. search needs)
-    (λ c. search needs)
-    (λ c κs. search needs)
-    returns-4)
+    (tie.spec (λ c. search needs) cast-q (λ c. search needs) (λ c κs. search needs) returns (λ c. search needs) (λ c. search needs)
+    (λ c κs. search needs) returns-2 (λ c. search needs) (λ c. search needs) cast-if3 (λ c. search needs) (λ c. search needs) (λ c. search needs)
+    (λ c κs. search needs) returns-3 (λ c. search needs) (λ c κs. search needs) (λ c. search needs) (λ c κs. search needs) sub-mask
+    (λ c. search needs) add-t18 (λ c. search needs) (λ c κs. search needs) (λ c. search needs) add-t21 (λ c. search needs) (λ c. search needs)
+    (λ c κs. search needs) returns-4)

@@ -10,14 +10,8 @@ use borrow.Author.Needs.{needs}
 use Rattle.entries.proofs.weight.Statement.{statement}
 use Rattle.entries.proofs.weight.Tie as tie
 
-cast-result : tie.Need-cast-result
-cast-result c = search needs
-
-shl-result : tie.Need-shl-result
-shl-result c = search needs
-
 returns : tie.Need-returns
 returns c = shl-exact {a = 1} 1 (c .args .k) 32 (lit< tt) (omega arith) ∙ one-mul (2 ^ c .args .k)
 
 pub weight-spec : {M : Type 1} → statement M
-weight-spec = tie.close (tie.spec cast-result shl-result returns)
+weight-spec = tie.close (tie.spec (λ c. search needs) (λ c. search needs) returns)

@@ -28,15 +28,6 @@ Inv-loop s n t most buffer₀ items₀ at₀ cursor₀ table plan₀ masks₀ bu
 abbrev μ-loop : tie.MeasureT-loop
 μ-loop s n t most buffer₀ items₀ at₀ cursor₀ table plan₀ masks₀ buffer items at cursor plan masks = most - items
 
-table-requires : tie.Need-table-requires Inv-loop μ-loop
-table-requires c κs = search needs
-
-no-plans-requires : tie.Need-no-plans-requires Inv-loop μ-loop
-no-plans-requires c κs = search needs
-
-no-masks-requires : tie.Need-no-masks-requires Inv-loop μ-loop
-no-masks-requires c κs = search needs
-
 loop-holds : tie.Need-loop-holds Inv-loop μ-loop
 loop-holds c =
     let a = c .before .before .before .before .before .args in
@@ -51,14 +42,8 @@ returns c =
     let l = c .before .before .loop in
     filled-end rules recordOf (captureOf (a .s .now) (a .n) (a .t)) (sound (captureOf (a .s .now) (a .n) (a .t))) (cursorOf (a .c)) (a .most) (a .buffer .now) (l .buffer) (l .at) (l .items) (cursorOf (l .cursor)) (omega arith) (l .inv .0) (c .if1 .taken)
 
-slice-aggregate-item-at : tie.Need-slice-aggregate-item-at Inv-loop μ-loop
-slice-aggregate-item-at c = search needs
-
 item-at-requires : tie.Need-item-at-requires Inv-loop μ-loop
 item-at-requires c κs = (omega arith, omega arith, omega arith, c .before .before .before .loop .inv .3)
-
-size-requires : tie.Need-size-requires Inv-loop μ-loop
-size-requires c κs = search needs
 
 sub-if2 : tie.Need-sub-if2 Inv-loop μ-loop
 sub-if2 c = let s = c .before .before .before .before .before .before .loop .inv .0 in omega (arith, s .fits, s .long)
@@ -73,12 +58,6 @@ returns-2 c =
     let l = c .before .before .before .before .before .before .before .loop in
     filled-tight rules recordOf (captureOf (a .s .now) (a .n) (a .t)) (sound (captureOf (a .s .now) (a .n) (a .t))) (cursorOf (a .c)) (a .most) (a .buffer .now) (l .buffer) (l .at) (l .items) (cursorOf (l .cursor)) (c .before .before .before .before .before .before .before .before .before .before .before .before .before .pre .0) (l .inv .0) (itemOf (the-item .result)) (c .before .size .result) (the-item .ensures .0 .obeys) (c .before .size .ensures ∙ size-of (the-item .result) ∙ sym (record-length (itemOf (the-item .result)))) (c .if2 .taken)
 
-slice-aggregate-ready : tie.Need-slice-aggregate-ready Inv-loop μ-loop
-slice-aggregate-ready c = search needs
-
-slice-aggregate-ready-2 : tie.Need-slice-aggregate-ready-2 Inv-loop μ-loop
-slice-aggregate-ready-2 c = search needs
-
 ready-requires : tie.Need-ready-requires Inv-loop μ-loop
 ready-requires c κs = c .before .before .before .before .before .before .before .before .before .loop .inv .2
 
@@ -90,12 +69,6 @@ part-put-start c = let s = c .before .before .before .before .before .before .be
 
 part-put-end : tie.Need-part-put-end Inv-loop μ-loop
 part-put-end c = let s = c .before .before .before .before .before .before .before .before .before .before .before .loop .inv .0 in omega (arith, s .fits, s .long)
-
-slice-aggregate-put : tie.Need-slice-aggregate-put Inv-loop μ-loop
-slice-aggregate-put c = search needs
-
-slice-aggregate-put-2 : tie.Need-slice-aggregate-put-2 Inv-loop μ-loop
-slice-aggregate-put-2 c = search needs
 
 put-requires : tie.Need-put-requires Inv-loop μ-loop
 put-requires c κs =
@@ -150,34 +123,7 @@ returns-3 c =
 pub fill-spec : {M : Type 1} → statement M
 fill-spec =
     tie.close
-    (tie.spec
-    Inv-loop
-    μ-loop
-    table-requires
-    no-plans-requires
-    no-masks-requires
-    loop-holds
-    same-length
-    returns
-    slice-aggregate-item-at
-    item-at-requires
-    size-requires
-    sub-if2
-    same-length-2
-    returns-2
-    slice-aggregate-ready
-    slice-aggregate-ready-2
-    ready-requires
-    sub-put
-    part-put-start
-    part-put-end
-    slice-aggregate-put
-    slice-aggregate-put-2
-    put-requires
-    over-requires
-    add-at
-    add-items
-    loop-less
-    loop-again
-    same-length-3
+    (tie.spec Inv-loop μ-loop (λ c κs. search needs) (λ c κs. search needs) (λ c κs. search needs) loop-holds same-length returns (λ c. search needs)
+    item-at-requires (λ c κs. search needs) sub-if2 same-length-2 returns-2 (λ c. search needs) (λ c. search needs) ready-requires sub-put
+    part-put-start part-put-end (λ c. search needs) (λ c. search needs) put-requires over-requires add-at add-items loop-less loop-again same-length-3
     returns-3)

@@ -27,12 +27,6 @@ shared-slice-read-if1-2 c = omega (arith, c .before .before .before .before .pre
 returns : tie.Need-returns Inv-loop μ-loop
 returns c = λ all. c .if1 .taken (all (c .before .before .before .before .loop .j) (omega arith))
 
-add-j : tie.Need-add-j Inv-loop μ-loop
-add-j c = search needs
-
-loop-less : tie.Need-loop-less Inv-loop μ-loop
-loop-less c = search needs
-
 loop-again : tie.Need-loop-again Inv-loop μ-loop
 loop-again c = (omega arith, below-more _ _ (c .before .before .before .before .loop .inv .1) (c .if1 .left))
 
@@ -42,14 +36,5 @@ returns-2 c = λ q l. c .before .loop .inv .1 q (omega arith)
 pub begins-spec : {M : Type 1} → statement M
 begins-spec =
     tie.close
-    (tie.spec
-    Inv-loop
-    μ-loop
-    loop-holds
-    shared-slice-read-if1
-    shared-slice-read-if1-2
-    returns
-    add-j
-    loop-less
-    loop-again
+    (tie.spec Inv-loop μ-loop loop-holds shared-slice-read-if1 shared-slice-read-if1-2 returns (λ c. search needs) (λ c. search needs) loop-again
     returns-2)

@@ -7,15 +7,6 @@ use borrow.Author.Needs.{needs}
 use Rattle.judge.proofs.frame_of.Statement.{statement}
 use Rattle.judge.proofs.frame_of.Tie as tie
 
-record-by-requires : tie.Need-record-by-requires
-record-by-requires c κs = search needs
-
-enum-known-kind : tie.Need-enum-known-kind
-enum-known-kind c = search needs
-
-sound-requires : tie.Need-sound-requires
-sound-requires c κs = search needs
-
 same-length : tie.Need-same-length
 same-length c = c .before .before .before .before .before .before .before .before .record-by .kept .1 .1 .0
 
@@ -29,15 +20,6 @@ returns c =
       omega (arith, h .ensures .0 .tail-fits),
       h .ensures .1 .plans,
     )
-
-unsound-requires : tie.Need-unsound-requires
-unsound-requires c κs = search needs
-
-enum-told : tie.Need-enum-told
-enum-told c = search needs
-
-unsound-requires-2 : tie.Need-unsound-requires-2
-unsound-requires-2 c κs = search needs
 
 same-length-2 : tie.Need-same-length-2
 same-length-2 c = c .before .before .before .before .before .before .before .before .before .record-by .kept .1 .1 .0
@@ -68,16 +50,5 @@ returns-3 c =
 pub frame-of-spec : {M : Type 1} → statement M
 frame-of-spec =
     tie.close
-    (tie.spec
-    record-by-requires
-    enum-known-kind
-    sound-requires
-    same-length
-    returns
-    unsound-requires
-    enum-told
-    unsound-requires-2
-    same-length-2
-    returns-2
-    same-length-3
-    returns-3)
+    (tie.spec (λ c κs. search needs) (λ c. search needs) (λ c κs. search needs) same-length returns (λ c κs. search needs) (λ c. search needs)
+    (λ c κs. search needs) same-length-2 returns-2 same-length-3 returns-3)

@@ -8,21 +8,6 @@ use borrow.Author.Needs.{needs}
 use Rattle.judge.proofs.is_kind.Statement.{statement}
 use Rattle.judge.proofs.is_kind.Tie as tie
 
-kind-of-requires : tie.Need-kind-of-requires
-kind-of-requires c κs = search needs
-
-enum-known-j : tie.Need-enum-known-j
-enum-known-j c = search needs
-
-number-requires : tie.Need-number-requires
-number-requires c κs = search needs
-
-number-requires-2 : tie.Need-number-requires-2
-number-requires-2 c κs = search needs
-
-enum-told : tie.Need-enum-told
-enum-told c = search needs
-
 returns : tie.Need-returns
 returns c =
     let a = c .before .before .before .before .before .before .args in
@@ -37,11 +22,4 @@ returns-2 c =
 pub is-kind-spec : {M : Type 1} → statement M
 is-kind-spec =
     tie.close
-    (tie.spec
-    kind-of-requires
-    enum-known-j
-    number-requires
-    number-requires-2
-    enum-told
-    returns
-    returns-2)
+    (tie.spec (λ c κs. search needs) (λ c. search needs) (λ c κs. search needs) (λ c κs. search needs) (λ c. search needs) returns returns-2)

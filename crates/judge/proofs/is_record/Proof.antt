@@ -14,17 +14,8 @@ use borrow.Author.Needs.{needs}
 use Rattle.judge.proofs.is_record.Statement.{statement}
 use Rattle.judge.proofs.is_record.Tie as tie
 
-slice-aggregate-put : tie.Need-slice-aggregate-put
-slice-aggregate-put c = search needs
-
 put-requires : tie.Need-put-requires
 put-requires c κs = (size-le (itemOf (c .before .before .before .before .args .i)), c .before .before .before .before .pre .1)
-
-slice-aggregate-begins : tie.Need-slice-aggregate-begins
-slice-aggregate-begins c = search needs
-
-size-requires : tie.Need-size-requires
-size-requires c κs = search needs
 
 begins-requires : tie.Need-begins-requires
 begins-requires c κs =
@@ -44,12 +35,4 @@ returns c =
     (subst (λ (n : ℕ). SameTo n anew part (c .begins .result)) e (c .begins .ensures))
 
 pub is-record-spec : {M : Type 1} → statement M
-is-record-spec =
-    tie.close
-    (tie.spec
-    slice-aggregate-put
-    put-requires
-    slice-aggregate-begins
-    size-requires
-    begins-requires
-    returns)
+is-record-spec = tie.close (tie.spec (λ c. search needs) put-requires (λ c. search needs) (λ c κs. search needs) begins-requires returns)

@@ -9,26 +9,17 @@ use borrow.Author.Needs.{needs}
 use Rattle.judge.proofs.sound.Statement.{statement}
 use Rattle.judge.proofs.sound.Tie as tie
 
-is-kind-requires : tie.Need-is-kind-requires
-is-kind-requires c κs = search needs
-
 returns : tie.Need-returns
 returns c =
     let s = c .before .before .before .before .before .before in
     let a = s .args in
     sound-kind (a .t) (a .part .now) (a .r) (a .k) (s .pre .0) (s .pre .1) (sym (c .before .is-kind .ensures) ∙ not-true (c .before .is-kind .result) (c .if1 .taken))
 
-least-tail-requires : tie.Need-least-tail-requires
-least-tail-requires c κs = search needs
-
 returns-2 : tie.Need-returns-2
 returns-2 c =
     let s = c .before .before .before .before .before .before .before .before in
     let a = s .args in
     sound-tail (a .t) (a .part .now) (a .r) (a .k) (s .pre .0) (s .pre .1) (omega (arith, c .before .least-tail .ensures, c .if2 .taken))
-
-frame-requires : tie.Need-frame-requires
-frame-requires c κs = search needs
 
 is-record-requires : tie.Need-is-record-requires
 is-record-requires c κs =
@@ -44,13 +35,4 @@ returns-3 c =
     sound-record (a .t) (a .part .now) (a .r) (a .k) (s .pre .0) (s .pre .1) (sym (kind .ensures) ∙ not-false (kind .result) (c .before .before .before .before .if1 .left)) (omega (arith, c .before .before .before .least-tail .ensures, c .before .before .if2 .left)) (c .before .frame .result) (c .before .frame .ensures) (c .is-record .result) (c .is-record .ensures)
 
 pub sound-spec : {M : Type 1} → statement M
-sound-spec =
-    tie.close
-    (tie.spec
-    is-kind-requires
-    returns
-    least-tail-requires
-    returns-2
-    frame-requires
-    is-record-requires
-    returns-3)
+sound-spec = tie.close (tie.spec (λ c κs. search needs) returns (λ c κs. search needs) returns-2 (λ c κs. search needs) is-record-requires returns-3)

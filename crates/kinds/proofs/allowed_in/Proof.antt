@@ -5,12 +5,6 @@ use borrow.Author.Needs.{needs}
 use Rattle.kinds.proofs.allowed_in.Statement.{statement}
 use Rattle.kinds.proofs.allowed_in.Tie as tie
 
-starts-requires : tie.Need-starts-requires
-starts-requires c κs = search needs
-
-follows-in-requires : tie.Need-follows-in-requires
-follows-in-requires c κs = search needs
-
 returns : tie.Need-returns
 returns c = rw (eq-eqb (c .before .before .args .x) 0 (c .before .if1 .taken)) (c .starts .ensures)
 
@@ -18,4 +12,4 @@ returns-2 : tie.Need-returns-2
 returns-2 c = let other = ne-eqb (c .before .before .args .x) 0 (c .before .if1 .left) in rw other (rw other at (c .follows-in .ensures))
 
 pub allowed-in-spec : {M : Type 1} → statement M
-allowed-in-spec = tie.close (tie.spec starts-requires follows-in-requires returns returns-2)
+allowed-in-spec = tie.close (tie.spec (λ c κs. search needs) (λ c κs. search needs) returns returns-2)

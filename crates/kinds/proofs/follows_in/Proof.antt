@@ -7,9 +7,6 @@ use Rattle.kinds.proofs.KindLaws.{two-not-0}
 use Rattle.kinds.proofs.follows_in.Statement.{statement}
 use Rattle.kinds.proofs.follows_in.Tie as tie
 
-number-requires : tie.Need-number-requires
-number-requires c κs = search needs
-
 returns : tie.Need-returns
 returns c = rw (← c .before .number .ensures, c .if1 .taken) (two-not-0 (c .before .before .args .x))
 
@@ -17,4 +14,4 @@ returns-2 : tie.Need-returns-2
 returns-2 c = rw (← c .before .number .ensures, ne-eqb (c .before .number .result) 8 (c .if1 .left), and-true)
 
 pub follows-in-spec : {M : Type 1} → statement M
-follows-in-spec = tie.close (tie.spec number-requires returns returns-2)
+follows-in-spec = tie.close (tie.spec (λ c κs. search needs) returns returns-2)

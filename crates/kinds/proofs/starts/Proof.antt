@@ -11,9 +11,6 @@ use Rattle.kinds.proofs.starts.Tie as tie
 returns : tie.Need-returns
 returns c = rw (ne-eqb (c .before .args .v % 16) 0 (c .if1 .taken), and-false)
 
-number-requires : tie.Need-number-requires
-number-requires c κs = search needs
-
 returns-2 : tie.Need-returns-2
 returns-2 c =
     let a = c .before .before .before .args in
@@ -29,4 +26,4 @@ returns-4 c =
     rw (← c .before .number .ensures, ne-eqb n 6 (c .match .rest .0 .1), ne-eqb n 8 (c .match .rest .1), eq-eqb (a .v % 16) 0 (c .before .before .if1 .left))
 
 pub starts-spec : {M : Type 1} → statement M
-starts-spec = tie.close (tie.spec returns number-requires returns-2 returns-3 returns-4)
+starts-spec = tie.close (tie.spec returns (λ c κs. search needs) returns-2 returns-3 returns-4)

@@ -19,59 +19,11 @@ Inv-loop s₀ p k o r i n j₀ s j =
 abbrev μ-loop : tie.MeasureT-loop
 μ-loop s₀ p k o r i n j₀ s j = n - j
 
-add-if1 : tie.Need-add-if1 Inv-loop μ-loop
-add-if1 c = search needs
-
-array-read-put-top : tie.Need-array-read-put-top Inv-loop μ-loop
-array-read-put-top c = search needs
-
-put-top-requires : tie.Need-put-top-requires Inv-loop μ-loop
-put-top-requires c κs = search needs
-
-same-length : tie.Need-same-length Inv-loop μ-loop
-same-length c = search needs
-
 returns : tie.Need-returns Inv-loop μ-loop
 returns c = let a = c .before .before .before .before .before .before .args in c .before .before .put-top .ensures (bitAt (a .t3)) 0 (byte-bit (a .t3) 0)
 
-sub-put-top : tie.Need-sub-put-top Inv-loop μ-loop
-sub-put-top c = search needs
-
-array-read-put-top-2 : tie.Need-array-read-put-top-2 Inv-loop μ-loop
-array-read-put-top-2 c = search needs
-
-put-top-requires-2 : tie.Need-put-top-requires-2 Inv-loop μ-loop
-put-top-requires-2 c κs = search needs
-
-add-n : tie.Need-add-n Inv-loop μ-loop
-add-n c = search needs
-
 loop-holds : tie.Need-loop-holds Inv-loop μ-loop
 loop-holds c = (omega arith, omega arith, refl, λ m. omega (arith, c .slice-known3 .given m), refl)
-
-sub-join : tie.Need-sub-join Inv-loop μ-loop
-sub-join c = search needs
-
-array-read-join : tie.Need-array-read-join Inv-loop μ-loop
-array-read-join c = search needs
-
-array-read-join-2 : tie.Need-array-read-join-2 Inv-loop μ-loop
-array-read-join-2 c = search needs
-
-join-requires : tie.Need-join-requires Inv-loop μ-loop
-join-requires c κs = search needs
-
-add-s : tie.Need-add-s Inv-loop μ-loop
-add-s c = search needs
-
-slice-write-s : tie.Need-slice-write-s Inv-loop μ-loop
-slice-write-s c = search needs
-
-add-j : tie.Need-add-j Inv-loop μ-loop
-add-j c = search needs
-
-loop-less : tie.Need-loop-less Inv-loop μ-loop
-loop-less c = search needs
 
 loop-again : tie.Need-loop-again Inv-loop μ-loop
 loop-again c =
@@ -91,30 +43,6 @@ loop-again c =
       set-bytes (l .s) i v (l .inv .3) inside (omega arith),
       ap (left g _ (a .p) (a .k)) next ∙ turn ∙ l .inv .4,
     )
-
-array-read-last : tie.Need-array-read-last Inv-loop μ-loop
-array-read-last c = search needs
-
-add-put-top : tie.Need-add-put-top Inv-loop μ-loop
-add-put-top c = search needs
-
-mul-put-top : tie.Need-mul-put-top Inv-loop μ-loop
-mul-put-top c = search needs
-
-add-put-top-2 : tie.Need-add-put-top-2 Inv-loop μ-loop
-add-put-top-2 c = search needs
-
-sub-join-2 : tie.Need-sub-join-2 Inv-loop μ-loop
-sub-join-2 c = search needs
-
-array-read-join-3 : tie.Need-array-read-join-3 Inv-loop μ-loop
-array-read-join-3 c = search needs
-
-join-requires-2 : tie.Need-join-requires-2 Inv-loop μ-loop
-join-requires-2 c κs = search needs
-
-put-top-requires-3 : tie.Need-put-top-requires-3 Inv-loop μ-loop
-put-top-requires-3 c κs = search needs
 
 same-length-2 : tie.Need-same-length-2 Inv-loop μ-loop
 same-length-2 c = c .before .before .put-top3 .kept .0 ∙ c .before .before .before .before .before .before .before .loop .inv .2 ∙ c .before .before .before .before .before .before .before .before .before .before .put-top2 .kept .0
@@ -137,35 +65,8 @@ returns-2 c =
 pub body-spec : {M : Type 1} → statement M
 body-spec =
     tie.close
-    (tie.spec
-    Inv-loop
-    μ-loop
-    add-if1
-    array-read-put-top
-    put-top-requires
-    same-length
-    returns
-    sub-put-top
-    array-read-put-top-2
-    put-top-requires-2
-    add-n
-    loop-holds
-    sub-join
-    array-read-join
-    array-read-join-2
-    join-requires
-    add-s
-    slice-write-s
-    add-j
-    loop-less
-    loop-again
-    array-read-last
-    add-put-top
-    mul-put-top
-    add-put-top-2
-    sub-join-2
-    array-read-join-3
-    join-requires-2
-    put-top-requires-3
-    same-length-2
-    returns-2)
+    (tie.spec Inv-loop μ-loop (λ c. search needs) (λ c. search needs) (λ c κs. search needs) (λ c. search needs) returns (λ c. search needs)
+    (λ c. search needs) (λ c κs. search needs) (λ c. search needs) loop-holds (λ c. search needs) (λ c. search needs) (λ c. search needs)
+    (λ c κs. search needs) (λ c. search needs) (λ c. search needs) (λ c. search needs) (λ c. search needs) loop-again (λ c. search needs)
+    (λ c. search needs) (λ c. search needs) (λ c. search needs) (λ c. search needs) (λ c. search needs) (λ c κs. search needs) (λ c κs. search needs)
+    same-length-2 returns-2)

@@ -19,43 +19,13 @@ Inv-loop s₀ p t r end i₀ s i =
 abbrev μ-loop : tie.MeasureT-loop
 μ-loop s₀ p t r end i₀ s i = end - i
 
-add-if1 : tie.Need-add-if1 Inv-loop μ-loop
-add-if1 c = search needs
-
-put-top-requires : tie.Need-put-top-requires Inv-loop μ-loop
-put-top-requires c κs = search needs
-
-same-length : tie.Need-same-length Inv-loop μ-loop
-same-length c = search needs
-
 returns : tie.Need-returns Inv-loop μ-loop
 returns c = let a = c .before .before .before .before .before .before .args in c .before .before .put-top .ensures (λ _. true) 0 (ones-show 0) ∙ ap (putBits (a .s .now) (a .p)) (sym (ones-are (a .t) 0))
-
-sub-put-top : tie.Need-sub-put-top Inv-loop μ-loop
-sub-put-top c = search needs
-
-put-top-requires-2 : tie.Need-put-top-requires-2 Inv-loop μ-loop
-put-top-requires-2 c κs = search needs
-
-add-end : tie.Need-add-end Inv-loop μ-loop
-add-end c = search needs
-
-add-i : tie.Need-add-i Inv-loop μ-loop
-add-i c = search needs
 
 loop-holds : tie.Need-loop-holds Inv-loop μ-loop
 loop-holds c = let a = c .before .before .before .before .before .before .args in
     let x : 8 * (a .p / 8 + 1) - a .p ≡ 8 - a .p % 8 = omega arith in
     (omega arith, omega arith, refl, λ m. omega (arith, c .slice-known3 .given m), ap (left (λ _. true) _ (a .p) (a .t)) x)
-
-slice-write-s : tie.Need-slice-write-s Inv-loop μ-loop
-slice-write-s c = search needs
-
-add-i-2 : tie.Need-add-i-2 Inv-loop μ-loop
-add-i-2 c = search needs
-
-loop-less : tie.Need-loop-less Inv-loop μ-loop
-loop-less c = search needs
 
 loop-again : tie.Need-loop-again Inv-loop μ-loop
 loop-again c =
@@ -71,15 +41,6 @@ loop-again c =
       set-bytes (l .s) (l .i) 255 (l .inv .3) inside (omega arith),
       ap (left (λ _. true) _ (a .p) (a .t)) next ∙ turn ∙ l .inv .4,
     )
-
-mul-put-top : tie.Need-mul-put-top Inv-loop μ-loop
-mul-put-top c = search needs
-
-add-put-top : tie.Need-add-put-top Inv-loop μ-loop
-add-put-top c = search needs
-
-put-top-requires-3 : tie.Need-put-top-requires-3 Inv-loop μ-loop
-put-top-requires-3 c κs = search needs
 
 same-length-2 : tie.Need-same-length-2 Inv-loop μ-loop
 same-length-2 c = c .before .before .put-top3 .kept .0 ∙ c .before .before .before .before .before .loop .inv .2 ∙ c .before .before .before .before .before .before .before .before .put-top2 .kept .0
@@ -97,24 +58,6 @@ returns-2 c =
 pub tail-spec : {M : Type 1} → statement M
 tail-spec =
     tie.close
-    (tie.spec
-    Inv-loop
-    μ-loop
-    add-if1
-    put-top-requires
-    same-length
-    returns
-    sub-put-top
-    put-top-requires-2
-    add-end
-    add-i
-    loop-holds
-    slice-write-s
-    add-i-2
-    loop-less
-    loop-again
-    mul-put-top
-    add-put-top
-    put-top-requires-3
-    same-length-2
-    returns-2)
+    (tie.spec Inv-loop μ-loop (λ c. search needs) (λ c κs. search needs) (λ c. search needs) returns (λ c. search needs) (λ c κs. search needs)
+    (λ c. search needs) (λ c. search needs) loop-holds (λ c. search needs) (λ c. search needs) (λ c. search needs) loop-again (λ c. search needs)
+    (λ c. search needs) (λ c κs. search needs) same-length-2 returns-2)

@@ -12,9 +12,6 @@ use Rattle.list.proofs.main.Tie as tie
 slice-aggregate-read-full : tie.Need-slice-aggregate-read-full
 slice-aggregate-read-full c = sym (length-replicate {A = ℕ} 65538 0)
 
-read-full-requires : tie.Need-read-full-requires
-read-full-requires c κs = search needs
-
 array-share-prefix-input : tie.Need-array-share-prefix-input
 array-share-prefix-input c = c .before .read-full .ensures .0
 
@@ -35,23 +32,8 @@ array-share-prefix-text c = c .before .listing .ensures .put .within .0
 slice-aggregate-write-all : tie.Need-slice-aggregate-write-all
 slice-aggregate-write-all c = c .before .before .listing .ensures .put .within .1
 
-write-all-requires : tie.Need-write-all-requires
-write-all-requires c κs = search needs
-
-returns : tie.Need-returns
-returns c = search needs
-
 pub main-spec : {M : Type 1} → statement M
 main-spec =
     tie.close
-    (tie.spec
-    slice-aggregate-read-full
-    read-full-requires
-    array-share-prefix-input
-    slice-aggregate-listing
-    slice-aggregate-listing-2
-    listing-requires
-    array-share-prefix-text
-    slice-aggregate-write-all
-    write-all-requires
-    returns)
+    (tie.spec slice-aggregate-read-full (λ c κs. search needs) array-share-prefix-input slice-aggregate-listing slice-aggregate-listing-2
+    listing-requires array-share-prefix-text slice-aggregate-write-all (λ c κs. search needs) (λ c. search needs))

@@ -19,9 +19,6 @@ Inv-loop capture direction out₀ n buffer₀ cursor₀ end₀ out buffer cursor
 abbrev μ-loop : tie.MeasureT-loop
 μ-loop capture direction out₀ n buffer₀ cursor₀ end₀ out buffer cursor end = n - cursor .position
 
-mul-n : tie.Need-mul-n Inv-loop μ-loop
-mul-n c = search needs
-
 loop-holds : tie.Need-loop-holds Inv-loop μ-loop
 loop-holds c =
     let a = c .before .before .args in
@@ -29,15 +26,6 @@ loop-holds c =
 
 slice-aggregate-page : tie.Need-slice-aggregate-page Inv-loop μ-loop
 slice-aggregate-page c = sym (c .before .loop .inv .1)
-
-page-requires : tie.Need-page-requires Inv-loop μ-loop
-page-requires c κs = search needs
-
-put-refusal-requires : tie.Need-put-refusal-requires Inv-loop μ-loop
-put-refusal-requires c κs = search needs
-
-same-length : tie.Need-same-length Inv-loop μ-loop
-same-length c = search needs
 
 returns : tie.Need-returns Inv-loop μ-loop
 returns c =
@@ -76,9 +64,6 @@ put-lines-requires c κs =
     let page = page-taken (a .capture .now) (a .direction) (l .cursor) (l .buffer) (the-page .result) after (the-page .ensures) (the-page .kept .1 .1 .0) (c .before .before .if1 .left) in
     page-records (a .capture .now) (a .direction) (l .cursor) (a .out .now) (l .out) (l .end) (l .inv .0) (the-page .result) after page (c .before .before .before .before .before .before .before .before .before .before .pre .0) (omega (arith, c .before .before .before .before .before .before .before .before .before .before .pre .1, l .inv .2))
 
-same-length-2 : tie.Need-same-length-2 Inv-loop μ-loop
-same-length-2 c = search needs
-
 returns-2 : tie.Need-returns-2 Inv-loop μ-loop
 returns-2 c =
     let a = c .before .before .before .before .before .before .before .before .before .before .before .before .before .before .before .args in
@@ -88,9 +73,6 @@ returns-2 c =
     let page = page-taken (a .capture .now) (a .direction) (l .cursor) (l .buffer) (the-page .result) after (the-page .ensures) (the-page .kept .1 .1 .0) (c .before .before .before .before .before .before .before .if1 .left) in
     let p = c .before .before .before .before .put-lines in
     listed (a .capture .now) (a .direction) (l .cursor) (a .out .now) (l .out) (l .end) (l .inv .0) (the-page .result) after page (c .before .before .before .before .before .before .before .before .before .before .before .before .before .before .before .pre .0) (p .last .0) (p .result) (p .ensures) (c .if2 .taken)
-
-next-requires : tie.Need-next-requires Inv-loop μ-loop
-next-requires c κs = search needs
 
 loop-less : tie.Need-loop-less Inv-loop μ-loop
 loop-less c =
@@ -119,21 +101,6 @@ loop-again c =
 pub list-spec : {M : Type 1} → statement M
 list-spec =
     tie.close
-    (tie.spec
-    Inv-loop
-    μ-loop
-    mul-n
-    loop-holds
-    slice-aggregate-page
-    page-requires
-    put-refusal-requires
-    same-length
-    returns
-    array-share-prefix-buffer
-    slice-aggregate-put-lines
-    put-lines-requires
-    same-length-2
-    returns-2
-    next-requires
-    loop-less
+    (tie.spec Inv-loop μ-loop (λ c. search needs) loop-holds slice-aggregate-page (λ c κs. search needs) (λ c κs. search needs) (λ c. search needs)
+    returns array-share-prefix-buffer slice-aggregate-put-lines put-lines-requires (λ c. search needs) returns-2 (λ c κs. search needs) loop-less
     loop-again)

@@ -77,26 +77,7 @@ returns c =
 pub four-wrongs-spec : {M : Type 1} → statement M
 four-wrongs-spec =
     tie.close
-    (tie.spec
-    (λ c κs. search needs)
-    (λ c. search needs)
-    ready-requires-2
-    (λ c. search needs)
-    ready-requires-3
-    (λ c. search needs)
-    ready-requires-4
-    wrong-by-requires
-    (λ c. search needs)
-    wrong-by-requires-2
-    (λ c. search needs)
-    wrong-by-requires-3
-    (λ c. search needs)
-    wrong-by-requires-4
-    (λ c. search needs)
-    (λ c. search needs)
-    (λ c. search needs)
-    (λ c. search needs)
-    (λ c. search needs)
-    (λ c. search needs)
-    (λ c. search needs)
+    (tie.spec (λ c κs. search needs) (λ c. search needs) ready-requires-2 (λ c. search needs) ready-requires-3 (λ c. search needs) ready-requires-4
+    wrong-by-requires (λ c. search needs) wrong-by-requires-2 (λ c. search needs) wrong-by-requires-3 (λ c. search needs) wrong-by-requires-4
+    (λ c. search needs) (λ c. search needs) (λ c. search needs) (λ c. search needs) (λ c. search needs) (λ c. search needs) (λ c. search needs)
     returns)

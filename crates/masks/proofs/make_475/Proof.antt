@@ -18,20 +18,10 @@ pub make-475-spec : {M : Type 1} → statement M
 unfolding dPlaces
 make-475-spec =
     tie.close
-    (tie.spec
-    (λ c. search needs)
-    (λ c κs. asked (lit< tt) (c .before .before .before .before .pre .2) (refl ∙ sym (of-475 0 (lit< tt))) tt)
-    (λ c. search needs)
-    (λ c κs. asked (lit< tt) (c .before .before .before .before .pre .2) (refl ∙ sym (of-475 1 (lit< tt))) tt)
-    (λ c. search needs)
-    (λ c κs. asked (lit< tt) (c .before .before .before .before .pre .2) (refl ∙ sym (of-475 2 (lit< tt))) tt)
-    (λ c. search needs)
-    (λ c κs. asked (lit< tt) (c .before .before .before .before .pre .2) (refl ∙ sym (of-475 3 (lit< tt))) tt)
-    (λ c. search needs)
-    (λ c. rw (c .before .before .before .before .before .match .keys1) (c .before .before .put-masks .ensures))
-    (λ c. search needs)
-    (λ c. rw (c .before .before .before .before .before .match .keys2) (c .before .before .put-masks2 .ensures))
-    (λ c. search needs)
-    (λ c. rw (c .before .before .before .before .before .match .keys3) (c .before .before .put-masks3 .ensures))
-    (λ c. search needs)
-    returns-4)
+    (tie.spec (λ c. search needs) (λ c κs. asked (lit< tt) (c .before .before .before .before .pre .2) (refl ∙ sym (of-475 0 (lit< tt))) tt)
+    (λ c. search needs) (λ c κs. asked (lit< tt) (c .before .before .before .before .pre .2) (refl ∙ sym (of-475 1 (lit< tt))) tt) (λ c. search needs)
+    (λ c κs. asked (lit< tt) (c .before .before .before .before .pre .2) (refl ∙ sym (of-475 2 (lit< tt))) tt) (λ c. search needs)
+    (λ c κs. asked (lit< tt) (c .before .before .before .before .pre .2) (refl ∙ sym (of-475 3 (lit< tt))) tt) (λ c. search needs)
+    (λ c. rw (c .before .before .before .before .before .match .keys1) (c .before .before .put-masks .ensures)) (λ c. search needs)
+    (λ c. rw (c .before .before .before .before .before .match .keys2) (c .before .before .put-masks2 .ensures)) (λ c. search needs)
+    (λ c. rw (c .before .before .before .before .before .match .keys3) (c .before .before .put-masks3 .ensures)) (λ c. search needs) returns-4)

@@ -18,20 +18,10 @@ pub make-515-spec : {M : Type 1} → statement M
 unfolding dPlaces
 make-515-spec =
     tie.close
-    (tie.spec
-    (λ c. search needs)
-    (λ c κs. asked (lit< tt) (c .before .before .before .before .pre .2) (refl ∙ sym (of-515 0 (lit< tt))) tt)
-    (λ c. search needs)
-    (λ c κs. asked (lit< tt) (c .before .before .before .before .pre .2) (refl ∙ sym (of-515 1 (lit< tt))) tt)
-    (λ c. search needs)
-    (λ c κs. asked (lit< tt) (c .before .before .before .before .pre .2) (refl ∙ sym (of-515 2 (lit< tt))) tt)
-    (λ c. search needs)
-    (λ c κs. asked (lit< tt) (c .before .before .before .before .pre .2) (refl ∙ sym (of-515 3 (lit< tt))) tt)
-    (λ c. search needs)
-    (λ c. rw (c .before .before .before .before .before .match .keys1) (c .before .before .put-masks .ensures))
-    (λ c. search needs)
-    (λ c. rw (c .before .before .before .before .before .match .keys2) (c .before .before .put-masks2 .ensures))
-    (λ c. search needs)
-    (λ c. rw (c .before .before .before .before .before .match .keys3) (c .before .before .put-masks3 .ensures))
-    (λ c. search needs)
-    returns-4)
+    (tie.spec (λ c. search needs) (λ c κs. asked (lit< tt) (c .before .before .before .before .pre .2) (refl ∙ sym (of-515 0 (lit< tt))) tt)
+    (λ c. search needs) (λ c κs. asked (lit< tt) (c .before .before .before .before .pre .2) (refl ∙ sym (of-515 1 (lit< tt))) tt) (λ c. search needs)
+    (λ c κs. asked (lit< tt) (c .before .before .before .before .pre .2) (refl ∙ sym (of-515 2 (lit< tt))) tt) (λ c. search needs)
+    (λ c κs. asked (lit< tt) (c .before .before .before .before .pre .2) (refl ∙ sym (of-515 3 (lit< tt))) tt) (λ c. search needs)
+    (λ c. rw (c .before .before .before .before .before .match .keys1) (c .before .before .put-masks .ensures)) (λ c. search needs)
+    (λ c. rw (c .before .before .before .before .before .match .keys2) (c .before .before .put-masks2 .ensures)) (λ c. search needs)
+    (λ c. rw (c .before .before .before .before .before .match .keys3) (c .before .before .put-masks3 .ensures)) (λ c. search needs) returns-4)

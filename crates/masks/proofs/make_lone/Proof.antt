@@ -19,16 +19,8 @@ pub make-lone-spec : {M : Type 1} → statement M
 unfolding checks dPlaces
 make-lone-spec =
     tie.close
-    (tie.spec
-    (λ c. search needs)
-    (λ c κs. asked (lit< tt) (c .before .before .before .before .pre .2) (refl ∙ sym of-590) tt)
-    (λ c. search needs)
-    (λ c κs. asked (lit< tt) (c .before .before .before .before .pre .2) (refl ∙ sym of-670) tt)
-    (λ c. search needs)
-    (λ c κs. asked (lit< tt) (c .before .before .before .before .pre .2) (refl ∙ sym of-740) tt)
-    (λ c. search needs)
-    (λ c. rw (c .before .before .before .before .before .match .keys1) (c .before .before .put-masks .ensures))
-    (λ c. search needs)
-    (λ c. rw (c .before .before .before .before .before .match .keys2) (c .before .before .put-masks2 .ensures))
-    (λ c. search needs)
-    returns-3)
+    (tie.spec (λ c. search needs) (λ c κs. asked (lit< tt) (c .before .before .before .before .pre .2) (refl ∙ sym of-590) tt) (λ c. search needs)
+    (λ c κs. asked (lit< tt) (c .before .before .before .before .pre .2) (refl ∙ sym of-670) tt) (λ c. search needs)
+    (λ c κs. asked (lit< tt) (c .before .before .before .before .pre .2) (refl ∙ sym of-740) tt) (λ c. search needs)
+    (λ c. rw (c .before .before .before .before .before .match .keys1) (c .before .before .put-masks .ensures)) (λ c. search needs)
+    (λ c. rw (c .before .before .before .before .before .match .keys2) (c .before .before .put-masks2 .ensures)) (λ c. search needs) returns-3)

@@ -12,21 +12,6 @@ use borrow.Author.Needs.{needs}
 use Rattle.masks.proofs.one_wrong.Statement.{statement}
 use Rattle.masks.proofs.one_wrong.Tie as tie
 
-mul-if1 : tie.Need-mul-if1
-mul-if1 c = search needs
-
-add-if1 : tie.Need-add-if1
-add-if1 c = search needs
-
-mul-if1-2 : tie.Need-mul-if1-2
-mul-if1-2 c = search needs
-
-slice-read-if1 : tie.Need-slice-read-if1
-slice-read-if1 c = search needs
-
-make-requires : tie.Need-make-requires
-make-requires c κs = search needs
-
 wrong-by-requires : tie.Need-wrong-by-requires
 wrong-by-requires c κs =
     let more : More (c .before .before .before .before .args .i) (c .before .before .before .before .args .m .now) (c .before .if1 .m) =
@@ -57,12 +42,5 @@ returns c =
 pub one-wrong-spec : {M : Type 1} → statement M
 one-wrong-spec =
     tie.close
-    (tie.spec
-    mul-if1
-    add-if1
-    mul-if1-2
-    slice-read-if1
-    make-requires
-    wrong-by-requires
-    same-length
+    (tie.spec (λ c. search needs) (λ c. search needs) (λ c. search needs) (λ c. search needs) (λ c κs. search needs) wrong-by-requires same-length
     returns)

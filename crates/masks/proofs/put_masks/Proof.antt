@@ -17,20 +17,8 @@ abbrev μ-loop : tie.MeasureT-loop
 masks-of-requires : tie.Need-masks-of-requires Inv-loop μ-loop
 masks-of-requires c κs = c .before .before .pre .3
 
-mul-at : tie.Need-mul-at Inv-loop μ-loop
-mul-at c = search needs
-
 loop-holds : tie.Need-loop-holds Inv-loop μ-loop
 loop-holds c = (omega arith, storing-none _ _ _)
-
-mul-m : tie.Need-mul-m Inv-loop μ-loop
-mul-m c = search needs
-
-array-read-m : tie.Need-array-read-m Inv-loop μ-loop
-array-read-m c = search needs
-
-add-m : tie.Need-add-m Inv-loop μ-loop
-add-m c = search needs
 
 mul-m-2 : tie.Need-mul-m-2 Inv-loop μ-loop
 mul-m-2 c = omega (arith, c .before .before .before .before .before .pre .0)
@@ -38,26 +26,14 @@ mul-m-2 c = omega (arith, c .before .before .before .before .before .pre .0)
 slice-write-m : tie.Need-slice-write-m Inv-loop μ-loop
 slice-write-m c = omega (arith, c .before .before .before .before .before .pre .0, c .before .before .before .before .before .pre .1 .size, c .before .loop .inv .1 .same-size)
 
-add-j : tie.Need-add-j Inv-loop μ-loop
-add-j c = search needs
-
-loop-less : tie.Need-loop-less Inv-loop μ-loop
-loop-less c = search needs
-
 loop-again : tie.Need-loop-again Inv-loop μ-loop
 loop-again c = (omega arith, storing-next _ _ _ _ _ _ (omega (arith, c .before .before .before .before .before .pre .0, c .before .before .before .before .before .pre .1 .size, c .before .loop .inv .1 .same-size)) refl (c .before .loop .inv .1))
-
-add-m-2 : tie.Need-add-m-2 Inv-loop μ-loop
-add-m-2 c = search needs
 
 mul-m-3 : tie.Need-mul-m-3 Inv-loop μ-loop
 mul-m-3 c = omega (arith, c .before .before .before .before .before .pre .0)
 
 slice-write-m-2 : tie.Need-slice-write-m-2 Inv-loop μ-loop
 slice-write-m-2 c = omega (arith, c .before .before .before .before .before .pre .0, c .before .before .before .before .before .pre .1 .size, c .before .loop .inv .1 .same-size)
-
-same-length : tie.Need-same-length Inv-loop μ-loop
-same-length c = search needs
 
 returns : tie.Need-returns Inv-loop μ-loop
 returns c =
@@ -70,22 +46,5 @@ returns c =
 pub put-masks-spec : {M : Type 1} → statement M
 put-masks-spec =
     tie.close
-    (tie.spec
-    Inv-loop
-    μ-loop
-    masks-of-requires
-    mul-at
-    loop-holds
-    mul-m
-    array-read-m
-    add-m
-    mul-m-2
-    slice-write-m
-    add-j
-    loop-less
-    loop-again
-    add-m-2
-    mul-m-3
-    slice-write-m-2
-    same-length
-    returns)
+    (tie.spec Inv-loop μ-loop masks-of-requires (λ c. search needs) loop-holds (λ c. search needs) (λ c. search needs) (λ c. search needs) mul-m-2
+    slice-write-m (λ c. search needs) (λ c. search needs) loop-again (λ c. search needs) mul-m-3 slice-write-m-2 (λ c. search needs) returns)

@@ -11,12 +11,6 @@ use borrow.Author.Needs.{needs}
 use Rattle.masks.proofs.wrong_by.Statement.{statement}
 use Rattle.masks.proofs.wrong_by.Tie as tie
 
-mul-right-by : tie.Need-mul-right-by
-mul-right-by c = search needs
-
-right-by-requires : tie.Need-right-by-requires
-right-by-requires c κs = search needs
-
 returns : tie.Need-returns
 returns c =
     let a = c .before .before .before .args in
@@ -30,4 +24,4 @@ returns-2 c =
     (omega arith, λ o h. ap (λ (b : Bool). toN (not b)) (sym (c .if1 .left) ∙ x .ensures o (getD covered (a .i) []) h (c .before .before .before .pre .2)))
 
 pub wrong-by-spec : {M : Type 1} → statement M
-wrong-by-spec = tie.close (tie.spec mul-right-by right-by-requires returns returns-2)
+wrong-by-spec = tie.close (tie.spec (λ c. search needs) (λ c κs. search needs) returns returns-2)

@@ -8,9 +8,6 @@ use borrow.Author.Tests.{ne-eqb, le-leb, lt-leb}
 use Rattle.octets.proofs.fixed.Statement.{statement}
 use Rattle.octets.proofs.fixed.Tie as tie
 
-number-requires : tie.Need-number-requires
-number-requires c κs = search needs
-
 returns : tie.Need-returns
 unfolding fixedOctets twenty octetOf
 returns c =
@@ -38,4 +35,4 @@ returns-4 c =
     rw (pattern-no (m .before .args .k), ← m .number .ensures, lt-leb n 4 (c .before .before .if1 .left), lt-leb n 6 (c .before .if2 .left), ne-eqb n 7 (c .if3 .left))
 
 pub fixed-spec : {M : Type 1} → statement M
-fixed-spec = tie.close (tie.spec number-requires returns returns-2 returns-3 returns-4)
+fixed-spec = tie.close (tie.spec (λ c κs. search needs) returns returns-2 returns-3 returns-4)

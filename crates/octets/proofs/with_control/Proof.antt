@@ -6,74 +6,26 @@ use borrow.Author.Needs.{needs}
 use Rattle.octets.proofs.with_control.Statement.{statement}
 use Rattle.octets.proofs.with_control.Tie as tie
 
-enum-told : tie.Need-enum-told
-enum-told c = search needs
-
-slice-aggregate-at-places : tie.Need-slice-aggregate-at-places
-slice-aggregate-at-places c = search needs
-
 at-places-requires : tie.Need-at-places-requires
 at-places-requires c κs = control-lent Speech _ (c .before .before .before .before .pre)
-
-enum-told-2 : tie.Need-enum-told-2
-enum-told-2 c = search needs
-
-slice-aggregate-at-places-2 : tie.Need-slice-aggregate-at-places-2
-slice-aggregate-at-places-2 c = search needs
 
 at-places-requires-2 : tie.Need-at-places-requires-2
 at-places-requires-2 c κs = control-lent Data _ (c .before .before .before .before .pre)
 
-enum-told-3 : tie.Need-enum-told-3
-enum-told-3 c = search needs
-
-slice-aggregate-at-places-3 : tie.Need-slice-aggregate-at-places-3
-slice-aggregate-at-places-3 c = search needs
-
 at-places-requires-3 : tie.Need-at-places-requires-3
 at-places-requires-3 c κs = control-lent Om _ (c .before .before .before .before .pre)
-
-enum-told-4 : tie.Need-enum-told-4
-enum-told-4 c = search needs
-
-slice-aggregate-at-places-4 : tie.Need-slice-aggregate-at-places-4
-slice-aggregate-at-places-4 c = search needs
 
 at-places-requires-4 : tie.Need-at-places-requires-4
 at-places-requires-4 c κs = control-lent Configuration _ (c .before .before .before .before .pre)
 
-enum-told-5 : tie.Need-enum-told-5
-enum-told-5 c = search needs
-
-slice-aggregate-at-places-5 : tie.Need-slice-aggregate-at-places-5
-slice-aggregate-at-places-5 c = search needs
-
 at-places-requires-5 : tie.Need-at-places-requires-5
 at-places-requires-5 c κs = control-lent NoSpeech _ (c .before .before .before .before .pre)
-
-enum-told-6 : tie.Need-enum-told-6
-enum-told-6 c = search needs
-
-slice-aggregate-at-places-6 : tie.Need-slice-aggregate-at-places-6
-slice-aggregate-at-places-6 c = search needs
 
 at-places-requires-6 : tie.Need-at-places-requires-6
 at-places-requires-6 c κs = control-lent Lower _ (c .before .before .before .before .pre)
 
-enum-told-7 : tie.Need-enum-told-7
-enum-told-7 c = search needs
-
-slice-aggregate-at-places-7 : tie.Need-slice-aggregate-at-places-7
-slice-aggregate-at-places-7 c = search needs
-
 at-places-requires-7 : tie.Need-at-places-requires-7
 at-places-requires-7 c κs = control-lent Amr670 _ (c .before .before .before .before .pre)
-
-enum-told-8 : tie.Need-enum-told-8
-enum-told-8 c = search needs
-
-slice-aggregate-at-places-8 : tie.Need-slice-aggregate-at-places-8
-slice-aggregate-at-places-8 c = search needs
 
 at-places-requires-8 : tie.Need-at-places-requires-8
 at-places-requires-8 c κs = control-lent Amr740 _ (c .before .before .before .before .pre)
@@ -105,36 +57,8 @@ returns-8 c = rw (c .before .before .enum-told8 .given .1) (c .at-places8 .ensur
 pub with-control-spec : {M : Type 1} → statement M
 with-control-spec =
     tie.close
-    (tie.spec
-    enum-told
-    slice-aggregate-at-places
-    at-places-requires
-    enum-told-2
-    slice-aggregate-at-places-2
-    at-places-requires-2
-    enum-told-3
-    slice-aggregate-at-places-3
-    at-places-requires-3
-    enum-told-4
-    slice-aggregate-at-places-4
-    at-places-requires-4
-    enum-told-5
-    slice-aggregate-at-places-5
-    at-places-requires-5
-    enum-told-6
-    slice-aggregate-at-places-6
-    at-places-requires-6
-    enum-told-7
-    slice-aggregate-at-places-7
-    at-places-requires-7
-    enum-told-8
-    slice-aggregate-at-places-8
-    at-places-requires-8
-    returns
-    returns-2
-    returns-3
-    returns-4
-    returns-5
-    returns-6
-    returns-7
-    returns-8)
+    (tie.spec (λ c. search needs) (λ c. search needs) at-places-requires (λ c. search needs) (λ c. search needs) at-places-requires-2
+    (λ c. search needs) (λ c. search needs) at-places-requires-3 (λ c. search needs) (λ c. search needs) at-places-requires-4 (λ c. search needs)
+    (λ c. search needs) at-places-requires-5 (λ c. search needs) (λ c. search needs) at-places-requires-6 (λ c. search needs) (λ c. search needs)
+    at-places-requires-7 (λ c. search needs) (λ c. search needs) at-places-requires-8 returns returns-2 returns-3 returns-4 returns-5 returns-6
+    returns-7 returns-8)

@@ -8,17 +8,8 @@ use borrow.Author.Tests.{ne-eqb}
 use Rattle.octets.proofs.with_extended.Statement.{statement}
 use Rattle.octets.proofs.with_extended.Tie as tie
 
-number-requires : tie.Need-number-requires
-number-requires c κs = search needs
-
-slice-aggregate-at-places : tie.Need-slice-aggregate-at-places
-slice-aggregate-at-places c = search needs
-
 at-places-requires : tie.Need-at-places-requires
 at-places-requires c κs = extended-lent Speech _ (c .before .before .before .before .pre)
-
-slice-aggregate-at-places-2 : tie.Need-slice-aggregate-at-places-2
-slice-aggregate-at-places-2 c = search needs
 
 at-places-requires-2 : tie.Need-at-places-requires-2
 at-places-requires-2 c κs = extended-lent Om _ (c .before .before .before .before .pre)
@@ -43,12 +34,4 @@ returns-3 c =
 pub with-extended-spec : {M : Type 1} → statement M
 with-extended-spec =
     tie.close
-    (tie.spec
-    number-requires
-    slice-aggregate-at-places
-    at-places-requires
-    slice-aggregate-at-places-2
-    at-places-requires-2
-    returns
-    returns-2
-    returns-3)
+    (tie.spec (λ c κs. search needs) (λ c. search needs) at-places-requires (λ c. search needs) at-places-requires-2 returns returns-2 returns-3)

@@ -7,18 +7,6 @@ use borrow.Author.Needs.{needs}
 use Rattle.octets.proofs.with_parities.Statement.{statement}
 use Rattle.octets.proofs.with_parities.Tie as tie
 
-number-requires : tie.Need-number-requires
-number-requires c κs = search needs
-
-with-c5-requires : tie.Need-with-c5-requires
-with-c5-requires c κs = search needs
-
-with-xc6-requires : tie.Need-with-xc6-requires
-with-xc6-requires c κs = search needs
-
-with-c5-requires-2 : tie.Need-with-c5-requires-2
-with-c5-requires-2 c κs = search needs
-
 returns : tie.Need-returns
 returns c =
     let m = c .before .before .before in
@@ -38,4 +26,6 @@ returns-3 c =
     sym (parities-none (a .o) (a .k) (m .number .result) (m .number .ensures) (c .match .rest .0 .1) (c .match .rest .1))
 
 pub with-parities-spec : {M : Type 1} → statement M
-with-parities-spec = tie.close (tie.spec number-requires with-c5-requires with-xc6-requires with-c5-requires-2 returns returns-2 returns-3)
+with-parities-spec =
+    tie.close
+    (tie.spec (λ c κs. search needs) (λ c κs. search needs) (λ c κs. search needs) (λ c κs. search needs) returns returns-2 returns-3)

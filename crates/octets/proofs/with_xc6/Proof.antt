@@ -8,14 +8,8 @@ use borrow.Author.Needs.{needs}
 use Rattle.octets.proofs.with_xc6.Statement.{statement}
 use Rattle.octets.proofs.with_xc6.Tie as tie
 
-slice-aggregate-with-parity : tie.Need-slice-aggregate-with-parity
-slice-aggregate-with-parity c = search needs
-
 with-parity-requires : tie.Need-with-parity-requires
 with-parity-requires c κs = (listed-below 160 (take 5 xcPlaces) tt, omega arith, omega arith)
 
-returns : tie.Need-returns
-returns c = search needs
-
 pub with-xc6-spec : {M : Type 1} → statement M
-with-xc6-spec = tie.close (tie.spec slice-aggregate-with-parity with-parity-requires returns)
+with-xc6-spec = tie.close (tie.spec (λ c. search needs) with-parity-requires (λ c. search needs))

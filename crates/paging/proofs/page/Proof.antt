@@ -9,12 +9,6 @@ use borrow.Author.Needs.{needs}
 use Rattle.paging.proofs.page.Statement.{statement}
 use Rattle.paging.proofs.page.Tie as tie
 
-refusal-requires : tie.Need-refusal-requires
-refusal-requires c κs = search needs
-
-refuse-requires : tie.Need-refuse-requires
-refuse-requires c κs = search needs
-
 returns : tie.Need-returns
 returns c =
     let a = c .before .before .before .before .before .args in
@@ -27,21 +21,12 @@ cast-t10 c =
     let z : c .before .before .before .refusal .result ≡ 0 = omega arith in
     omega (arith, admitted (length (a .capture .now)) (a .r) (sym (c .before .before .before .refusal .ensures) ∙ z) .known)
 
-terms-of-requires : tie.Need-terms-of-requires
-terms-of-requires c κs = search needs
-
 fill-requires : tie.Need-fill-requires
 fill-requires c κs =
     let a = c .before .before .before .before .before .before .before .before .args in
     let z : c .before .before .before .before .before .refusal .result ≡ 0 = omega arith in
     let m = admitted (length (a .capture .now)) (a .r) (sym (c .before .before .before .before .before .refusal .ensures) ∙ z) in
     (omega (arith, m .inside), omega (arith, m .count), m .short)
-
-answer-requires : tie.Need-answer-requires
-answer-requires c κs = search needs
-
-same-length : tie.Need-same-length
-same-length c = search needs
 
 returns-2 : tie.Need-returns-2
 returns-2 c =
@@ -53,4 +38,7 @@ returns-2 c =
     taken-call (a .capture .now) (a .r) (a .buffer .now) (the-terms-of .result) (the-fill .last .1 .1 .1 .1 .1 .0) (the-fill .result .items) (the-fill .result .bytes) (cursorOf (the-fill .result .cursor)) (c .answer .result) (the-refusal .result) (the-refusal .ensures) z (the-terms-of .ensures) (the-fill .ensures) (c .answer .ensures)
 
 pub page-spec : {M : Type 1} → statement M
-page-spec = tie.close (tie.spec refusal-requires refuse-requires returns cast-t10 terms-of-requires fill-requires answer-requires same-length returns-2)
+page-spec =
+    tie.close
+    (tie.spec (λ c κs. search needs) (λ c κs. search needs) returns cast-t10 (λ c κs. search needs) fill-requires (λ c κs. search needs)
+    (λ c. search needs) returns-2)

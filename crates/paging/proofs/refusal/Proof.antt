@@ -17,9 +17,6 @@ returns-3 c =
     let a = c .before .before .before .before .before .before .before .args in
     rw (le-ltb 1 (a .r .terms .direction) (c .before .before .before .if1 .left), ne-eqb (a .r .most) 0 (c .before .if2 .left), lt-ltb 65536 (a .bytes) (c .if3 .taken))
 
-mul-bits : tie.Need-mul-bits
-mul-bits c = search needs
-
 returns-4 : tie.Need-returns-4
 returns-4 c =
     let a = c .before .before .before .before .before .before .before .before .args in
@@ -41,4 +38,4 @@ returns-7 c =
     rw (le-ltb 1 (a .r .terms .direction) (c .before .before .before .before .before .before .before .if1 .left), ne-eqb (a .r .most) 0 (c .before .before .before .before .before .if2 .left), le-ltb 65536 (a .bytes) (c .before .before .before .before .if3 .left), le-ltb (8 * a .bytes) (a .r .n) (c .before .before .before .if4 .left), le-ltb (a .r .n) (a .r .cursor .position) (c .before .before .if5 .left), le-ltb 5 (a .r .cursor .context) (c .if6 .left))
 
 pub refusal-spec : {M : Type 1} → statement M
-refusal-spec = tie.close (tie.spec returns returns-2 returns-3 mul-bits returns-4 returns-5 returns-6 returns-7)
+refusal-spec = tie.close (tie.spec returns returns-2 returns-3 (λ c. search needs) returns-4 returns-5 returns-6 returns-7)

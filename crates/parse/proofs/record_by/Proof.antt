@@ -11,21 +11,6 @@ use borrow.Author.Needs.{needs}
 use Rattle.parse.proofs.record_by.Statement.{statement}
 use Rattle.parse.proofs.record_by.Tie as tie
 
-shared-slice-read-kind-by : tie.Need-shared-slice-read-kind-by
-shared-slice-read-kind-by c = search needs
-
-kind-by-requires : tie.Need-kind-by-requires
-kind-by-requires c κs = search needs
-
-enum-known-k : tie.Need-enum-known-k
-enum-known-k c = search needs
-
-size-requires : tie.Need-size-requires
-size-requires c κs = search needs
-
-unsound-requires : tie.Need-unsound-requires
-unsound-requires c κs = search needs
-
 returns : tie.Need-returns
 returns c =
     let a = c .before .before .before .before .before .before .before .before .before .before .before .args in
@@ -34,32 +19,11 @@ returns c =
       plan-none (c .unsound .result) (a .table .now) (a .plan .now) (c .unsound .ensures) (c .before .before .before .before .before .before .before .before .before .before .before .pre .1),
     )
 
-ready-requires : tie.Need-ready-requires
-ready-requires c κs = search needs
-
 octets-by-requires : tie.Need-octets-by-requires
 octets-by-requires c κs =
     let m = c .before .before .before .ready .ensures in
     let long : 12 + dLength (c .before .before .before .before .before .before .before .before .k .given .0 .0) ≤ length (c .before .before .before .before .before .before .before .before .before .before .before .before .before .before .before .args .part .now) = omega (arith, c .before .before .before .before .before .before .size .ensures, c .before .before .before .before .before .if1 .left) in
     (long, made-of (c .before .before .before .before .before .before .before .before .before .before .before .before .before .before .before .args .table .now) (c .before .before .before .ready .last .0) (c .before .before .before .before .before .before .before .before .k .given .0 .0) (m .plans) (m .here))
-
-number-at-requires : tie.Need-number-at-requires
-number-at-requires c κs = search needs
-
-number-at-requires-2 : tie.Need-number-at-requires-2
-number-at-requires-2 c κs = search needs
-
-shared-slice-read-t24 : tie.Need-shared-slice-read-t24
-shared-slice-read-t24 c = search needs
-
-enum-told : tie.Need-enum-told
-enum-told c = search needs
-
-unsound-requires-2 : tie.Need-unsound-requires-2
-unsound-requires-2 c κs = search needs
-
-same-length : tie.Need-same-length
-same-length c = search needs
 
 returns-2 : tie.Need-returns-2
 returns-2 c =
@@ -81,20 +45,6 @@ returns-3 c =
 pub record-by-spec : {M : Type 1} → statement M
 record-by-spec =
     tie.close
-    (tie.spec
-    shared-slice-read-kind-by
-    kind-by-requires
-    enum-known-k
-    size-requires
-    unsound-requires
-    returns
-    ready-requires
-    octets-by-requires
-    number-at-requires
-    number-at-requires-2
-    shared-slice-read-t24
-    enum-told
-    unsound-requires-2
-    same-length
-    returns-2
-    returns-3)
+    (tie.spec (λ c. search needs) (λ c κs. search needs) (λ c. search needs) (λ c κs. search needs) (λ c κs. search needs) returns
+    (λ c κs. search needs) octets-by-requires (λ c κs. search needs) (λ c κs. search needs) (λ c. search needs) (λ c. search needs)
+    (λ c κs. search needs) (λ c. search needs) returns-2 returns-3)

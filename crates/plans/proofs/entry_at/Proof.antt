@@ -3,27 +3,11 @@
 use Prim.Native.Nat.{_*_, _-_}
 use native.Mathlib.Omega.{arith}
 use lib.ListN.{drop, length-take, length-drop}
-use Rattle.scatter.proofs.PlaceLaws.{part-below}
+use Rattle.scatter.proofs.PlaceLaws.{part-below, eight-part}
 use Rattle.plans.proofs.PlanLaws.{part-rises}
-use Rattle.scatter.proofs.PlaceLaws.{eight-part}
 use borrow.Author.Needs.{needs}
 use Rattle.plans.proofs.entry_at.Statement.{statement}
 use Rattle.plans.proofs.entry_at.Tie as tie
-
-byte-end-requires : tie.Need-byte-end-requires
-byte-end-requires c κs = search needs
-
-mul-entry-of : tie.Need-mul-entry-of
-mul-entry-of c = search needs
-
-sub-entry-of : tie.Need-sub-entry-of
-sub-entry-of c = search needs
-
-part-entry-of-start : tie.Need-part-entry-of-start
-part-entry-of-start c = search needs
-
-part-entry-of-end : tie.Need-part-entry-of-end
-part-entry-of-end c = search needs
 
 entry-of-requires : tie.Need-entry-of-requires
 entry-of-requires c κs =
@@ -41,11 +25,4 @@ returns c = rw (eight-part (c .before .before .before .before .args .part .now) 
 pub entry-at-spec : {M : Type 1} → statement M
 entry-at-spec =
     tie.close
-    (tie.spec
-    byte-end-requires
-    mul-entry-of
-    sub-entry-of
-    part-entry-of-start
-    part-entry-of-end
-    entry-of-requires
-    returns)
+    (tie.spec (λ c κs. search needs) (λ c. search needs) (λ c. search needs) (λ c. search needs) (λ c. search needs) entry-of-requires returns)

@@ -8,12 +8,6 @@ use Rattle.plans.proofs.odd_one.Tie as tie
 returns : tie.Need-returns
 returns c = rw (ne-eqb (c .before .args .f) 1 (c .if1 .taken))
 
-cast-result : tie.Need-cast-result
-cast-result c = search needs
-
-add-result : tie.Need-add-result
-add-result c = search needs
-
 returns-2 : tie.Need-returns-2
 returns-2 c = rw (eq-eqb (c .before .before .args .f) 1 (c .before .if1 .left), eq-eqb (c .before .before .args .odd) 1 (c .if2 .taken))
 
@@ -21,4 +15,4 @@ returns-3 : tie.Need-returns-3
 returns-3 c = rw (eq-eqb (c .before .before .args .f) 1 (c .before .if1 .left), ne-eqb (c .before .before .args .odd) 1 (c .if2 .left))
 
 pub odd-one-spec : {M : Type 1} → statement M
-odd-one-spec = tie.close (tie.spec returns cast-result add-result returns-2 returns-3)
+odd-one-spec = tie.close (tie.spec returns (λ c. search needs) (λ c. search needs) returns-2 returns-3)

@@ -91,28 +91,5 @@ returns c =
 pub plan-part-spec : {M : Type 1} → statement M
 plan-part-spec =
     tie.close
-    (tie.spec
-    Inv-loop
-    μ-loop
-    add-n
-    loop-holds
-    entry-at-requires
-    mul-at
-    add-at
-    mul-plan
-    slice-write-plan
-    add-plan
-    mul-plan-2
-    slice-write-plan-2
-    add-plan-2
-    mul-plan-3
-    slice-write-plan-3
-    odd-one-requires
-    add-j
-    loop-less
-    loop-again
-    add-plan-3
-    mul-plan-4
-    slice-write-plan-4
-    same-length
-    returns)
+    (tie.spec Inv-loop μ-loop add-n loop-holds entry-at-requires mul-at add-at mul-plan slice-write-plan add-plan mul-plan-2 slice-write-plan-2
+    add-plan-2 mul-plan-3 slice-write-plan-3 odd-one-requires add-j loop-less loop-again add-plan-3 mul-plan-4 slice-write-plan-4 same-length returns)

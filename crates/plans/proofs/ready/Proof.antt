@@ -7,14 +7,10 @@ use lib.ListN.{length, getD}
 use Rattle.channel.specs.Places.{dPlaces}
 use Rattle.channel.proofs.DLaws.{d-rule}
 use Rattle.dplaces.proofs.DPlaceLaws.{part-end, part-is, places-below, d-length, d-count-le, all-length}
-use Rattle.plans.proofs.PlanLaws.{rises-rising}
-use Rattle.plans.proofs.PlanLaws.{kind-le, made-still, made-next}
+use Rattle.plans.proofs.PlanLaws.{rises-rising, kind-le, made-still, made-next}
 use borrow.Author.Needs.{needs}
 use Rattle.plans.proofs.ready.Statement.{statement}
 use Rattle.plans.proofs.ready.Tie as tie
-
-plan-from-requires : tie.Need-plan-from-requires
-plan-from-requires c κs = search needs
 
 add-if1 : tie.Need-add-if1
 add-if1 c = omega (arith, c .plan-from .ensures, kind-le (c .before .before .before .args .k))
@@ -25,20 +21,8 @@ mul-if1 c = omega (arith, c .plan-from .ensures, kind-le (c .before .before .bef
 slice-read-if1 : tie.Need-slice-read-if1
 slice-read-if1 c = omega (arith, c .before .plan-from .ensures, kind-le (c .before .before .before .before .args .k), c .before .before .before .before .pre .size)
 
-d-from-requires : tie.Need-d-from-requires
-d-from-requires c κs = search needs
-
-d-count-requires : tie.Need-d-count-requires
-d-count-requires c κs = search needs
-
 add-to : tie.Need-add-to
 add-to c = omega (arith, c .before .d-from .ensures, c .d-count .ensures, part-end (c .before .before .before .before .before .before .before .args .k))
-
-sub-plan-part : tie.Need-sub-plan-part
-sub-plan-part c = search needs
-
-part-plan-part-start : tie.Need-part-plan-part-start
-part-plan-part-start c = search needs
 
 part-plan-part-end : tie.Need-part-plan-part-end
 part-plan-part-end c = omega (arith, c .before .before .d-from .ensures, c .before .d-count .ensures, part-end (c .before .before .before .before .before .before .before .before .args .k), ap length (c .before .before .before .before .before .before .before .before .pre .table), all-length)
@@ -49,9 +33,6 @@ plan-part-requires c κs =
     let p = c .before .before .before .before .before .before .before .before .before .pre in
     let e = part-is (a .k) (a .table .now) (c .before .before .before .d-from .result) (c .before .before .d-count .result) (p .table) (c .before .before .before .d-from .ensures) (c .before .before .d-count .ensures) in
     (rw e (places-below (a .k)), rw e (rises-rising 0 (dPlaces (a .k)) (d-rule (a .k) .rise)), rw e (omega (arith, d-length (a .k), d-count-le (a .k))), omega (arith, c .before .before .before .before .before .before .plan-from .ensures, kind-le (a .k)), p .size)
-
-same-length : tie.Need-same-length
-same-length c = search needs
 
 returns : tie.Need-returns
 returns c =
@@ -67,18 +48,5 @@ returns-2 c =
 pub ready-spec : {M : Type 1} → statement M
 ready-spec =
     tie.close
-    (tie.spec
-    plan-from-requires
-    add-if1
-    mul-if1
-    slice-read-if1
-    d-from-requires
-    d-count-requires
-    add-to
-    sub-plan-part
-    part-plan-part-start
-    part-plan-part-end
-    plan-part-requires
-    same-length
-    returns
-    returns-2)
+    (tie.spec (λ c κs. search needs) add-if1 mul-if1 slice-read-if1 (λ c κs. search needs) (λ c κs. search needs) add-to (λ c. search needs)
+    (λ c. search needs) part-plan-part-end plan-part-requires (λ c. search needs) returns returns-2)

@@ -8,14 +8,8 @@ use borrow.Author.Needs.{needs}
 use Rattle.put.proofs.from_bit.Statement.{statement}
 use Rattle.put.proofs.from_bit.Tie as tie
 
-sub-join : tie.Need-sub-join
-sub-join c = search needs
-
-join-requires : tie.Need-join-requires
-join-requires c κs = search needs
-
 returns : tie.Need-returns
 returns c = let back : 8 * (0 + 1) - (8 - c .before .args .k) ≡ c .before .args .k = omega arith in rw back at (c .join .ensures (c .before .args .b ∷ []) 0 refl refl)
 
 pub from-bit-spec : {M : Type 1} → statement M
-from-bit-spec = tie.close (tie.spec sub-join join-requires returns)
+from-bit-spec = tie.close (tie.spec (λ c. search needs) (λ c κs. search needs) returns)

@@ -11,24 +11,10 @@ returns : tie.Need-returns
 unfolding putBits
 returns c = λ g a h. rw (c .if1 .taken)
 
-slice-read-run-in : tie.Need-slice-read-run-in
-slice-read-run-in c = search needs
-
-run-in-requires : tie.Need-run-in-requires
-run-in-requires c κs = search needs
-
-slice-write-s : tie.Need-slice-write-s
-slice-write-s c = search needs
-
-same-length : tie.Need-same-length
-same-length c = search needs
-
 returns-2 : tie.Need-returns-2
 returns-2 c = λ g a h.
     let b = c .before .before .before .before .args in
     rw (c .run-in .ensures) (top-put (b .s .now) (b .p) (b .c) (b .x) g a (omega arith) (omega arith) (omega arith) h)
 
 pub put-top-spec : {M : Type 1} → statement M
-put-top-spec =
-    tie.close
-    (tie.spec returns slice-read-run-in run-in-requires slice-write-s same-length returns-2)
+put-top-spec = tie.close (tie.spec returns (λ c. search needs) (λ c κs. search needs) (λ c. search needs) (λ c. search needs) returns-2)

@@ -15,32 +15,11 @@ made : (y a c x : ℕ) → a + c ≤ 8 → y < 256 → x < 256
     → y - bitAnd y (256 / 2 ^ a - 256 / 2 ^ (a + c)) + bitAnd (x / 2 ^ a) (256 / 2 ^ a - 256 / 2 ^ (a + c)) ≡ putRun y a c (x / 2 ^ (8 - c))
 made y a c x l hy hx = run-masked y a c x l hy hx (256 / 2 ^ a - 256 / 2 ^ (a + c)) (mask-is a c l)
 
-cast-mask : tie.Need-cast-mask
-cast-mask c = search needs
-
-shr-mask : tie.Need-shr-mask
-shr-mask c = search needs
-
-add-mask : tie.Need-add-mask
-add-mask c = search needs
-
-cast-mask-2 : tie.Need-cast-mask-2
-cast-mask-2 c = search needs
-
-shr-mask-2 : tie.Need-shr-mask-2
-shr-mask-2 c = search needs
-
 sub-mask : tie.Need-sub-mask
 sub-mask c = mask-falls (c .args .a) (c .args .c)
 
 sub-result : tie.Need-sub-result
 sub-result c = and-le-l (c .args .y) _
-
-cast-result : tie.Need-cast-result
-cast-result c = search needs
-
-shr-result : tie.Need-shr-result
-shr-result c = search needs
 
 add-result : tie.Need-add-result
 add-result c = let a = c .args in omega (arith, made (a .y) (a .a) (a .c) (a .x) (omega arith) (omega arith) (omega arith), run-lt (a .y) (a .a) (a .c) (a .x) (omega arith) (omega arith) (omega arith))
@@ -54,16 +33,5 @@ returns c = let a = c .args in made (a .y) (a .a) (a .c) (a .x) (omega arith) (o
 pub run-in-spec : {M : Type 1} → statement M
 run-in-spec =
     tie.close
-    (tie.spec
-    cast-mask
-    shr-mask
-    add-mask
-    cast-mask-2
-    shr-mask-2
-    sub-mask
-    sub-result
-    cast-result
-    shr-result
-    add-result
-    cast-result-2
-    returns)
+    (tie.spec (λ c. search needs) (λ c. search needs) (λ c. search needs) (λ c. search needs) (λ c. search needs) sub-mask sub-result
+    (λ c. search needs) (λ c. search needs) add-result cast-result-2 returns)

@@ -46,9 +46,6 @@ part-record-by-end c = omega arith
 record-by-requires : tie.Need-record-by-requires Inv-loop μ-loop
 record-by-requires c κs = (omega (arith, length-tail (c .before .before .before .loop .at) (c .before .before .before .before .before .before .before .before .args .records .now)), c .before .before .before .loop .inv .2)
 
-enum-known-kind : tie.Need-enum-known-kind Inv-loop μ-loop
-enum-known-kind c = search needs
-
 put-frame-requires : tie.Need-put-frame-requires Inv-loop μ-loop
 put-frame-requires c κs =
     let a = c .before .before .before .before .before .before .before .before .before .before .before .before .before .before .before .args in
@@ -59,9 +56,6 @@ put-frame-requires c κs =
     let k = c .before .before .kind .given .0 .0 in
     let next = put-next (w .terms) (8 * length (a .buffer .now)) (w .cursor) (a .records .now) (w .frames) (a .buffer .now) (l .at) (l .buffer) (l .inv .1 (w .terms) (w .cursor) (w .frames) (w .whole)) (frameBy (h .result) k) (omega arith) (record-is _ (h .result) by k (c .before .before .kind .given .1)) in
     rw (l .inv .0) (next .ends, c .before .before .before .before .before .before .before .before .before .before .before .before .before .before .before .pre .3)
-
-size-requires : tie.Need-size-requires Inv-loop μ-loop
-size-requires c κs = search needs
 
 add-at : tie.Need-add-at Inv-loop μ-loop
 add-at c =
@@ -92,9 +86,6 @@ loop-again c =
       h .ensures .1 .plans,
     )
 
-enum-told : tie.Need-enum-told Inv-loop μ-loop
-enum-told c = search needs
-
 same-length : tie.Need-same-length Inv-loop μ-loop
 same-length c = c .before .before .before .before .record-by .ensures .1 .plans .size ∙ sym (c .before .before .before .before .before .before .before .before .before .before .before .before .before .pre .0 .size)
 
@@ -123,4 +114,8 @@ returns-2 c =
     λ t c′ fs taken. put-done t (8 * length (a .buffer .now)) c′ (a .records .now) fs (a .buffer .now) (l .at) (l .buffer) (l .inv .1 t c′ fs taken) (omega arith)
 
 pub put-all-spec : {M : Type 1} → statement M
-put-all-spec = tie.close (tie.spec Inv-loop μ-loop loop-holds sub-record-by part-record-by-start part-record-by-end record-by-requires enum-known-kind put-frame-requires size-requires add-at loop-less loop-again enum-told same-length same-length-2 returns same-length-3 same-length-4 returns-2)
+put-all-spec =
+    tie.close
+    (tie.spec Inv-loop μ-loop loop-holds sub-record-by part-record-by-start part-record-by-end record-by-requires (λ c. search needs)
+    put-frame-requires (λ c κs. search needs) add-at loop-less loop-again (λ c. search needs) same-length same-length-2 returns same-length-3
+    same-length-4 returns-2)

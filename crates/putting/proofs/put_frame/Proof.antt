@@ -9,9 +9,6 @@ use borrow.Author.Needs.{needs}
 use Rattle.putting.proofs.put_frame.Statement.{statement}
 use Rattle.putting.proofs.put_frame.Tie as tie
 
-body-requires : tie.Need-body-requires
-body-requires c κs = search needs
-
 body-requires-2 : tie.Need-body-requires-2
 body-requires-2 c κs = let b = c .before .body .ensures in (omega (arith, c .before .before .before .before .pre .0), omega (arith, body-high (c .before .before .before .before .args .k)), c .before .before .before .before .pre .1)
 
@@ -23,13 +20,10 @@ tail-requires c κs =
     let l : length (c .before .before .before .body2 .last .0) ≡ length (c .before .before .before .before .before .before .before .before .args .buffer .now) = c .before .before .before .body2 .kept .0 in
     rw l (omega (arith, c .before .before .before .before .before .body .ensures, c .before .before .before .before .before .before .before .before .pre .0), c .before .before .before .before .before .before .before .before .pre .1)
 
-same-length : tie.Need-same-length
-same-length c = search needs
-
 returns : tie.Need-returns
 returns c =
     let a = c .before .before .before .before .before .before .before .before .before .before .before .args in
     frame-put (a .r) (a .k) (c .before .before .before .before .before .before .before .before .body .result) (a .buffer .now) (c .before .before .before .before .before .before .body2 .last .0) (c .before .before .tail .last .0) (c .before .before .before .before .before .before .before .before .body .ensures) (c .before .before .before .before .before .before .body2 .ensures) (c .before .before .tail .ensures)
 
 pub put-frame-spec : {M : Type 1} → statement M
-put-frame-spec = tie.close (tie.spec body-requires body-requires-2 add-tail tail-requires same-length returns)
+put-frame-spec = tie.close (tie.spec (λ c κs. search needs) body-requires-2 add-tail tail-requires (λ c. search needs) returns)

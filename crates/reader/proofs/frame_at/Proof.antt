@@ -11,23 +11,8 @@ use borrow.Author.Needs.{needs}
 use Rattle.reader.proofs.frame_at.Statement.{statement}
 use Rattle.reader.proofs.frame_at.Tie as tie
 
-octets-requires : tie.Need-octets-requires
-octets-requires c κs = search needs
-
-kind-of-requires : tie.Need-kind-of-requires
-kind-of-requires c κs = search needs
-
-enum-known-k : tie.Need-enum-known-k
-enum-known-k c = search needs
-
-body-requires : tie.Need-body-requires
-body-requires c κs = search needs
-
 add-behind : tie.Need-add-behind
 add-behind c = omega (arith, c .body .ensures, body-high (c .before .before .k .given .0 .0))
-
-gap-requires : tie.Need-gap-requires
-gap-requires c κs = search needs
 
 returns : tie.Need-returns
 returns c =
@@ -39,18 +24,6 @@ returns c =
           (none-past (bitAt (a .s .now)) (a .n) (a .t) (a .x) (a .p) (the-octets .result) (the-octets .ensures) (the-k .given .0 .0) (kind-is (a .t) (bitAt (the-octets .result)) (the-kind-of .result) (the-k .given .0 .0) (the-kind-of .ensures) (the-k .given .1)) (omega (arith, c .before .before .body .ensures))),
       c .before .before .before .before .before .before .before .before .before .before .pre .3,
     )
-
-verdict-in-requires : tie.Need-verdict-in-requires
-verdict-in-requires c κs = search needs
-
-allowed-in-requires : tie.Need-allowed-in-requires
-allowed-in-requires c κs = search needs
-
-gap-requires-2 : tie.Need-gap-requires-2
-gap-requires-2 c κs = search needs
-
-same-length : tie.Need-same-length
-same-length c = search needs
 
 returns-2 : tie.Need-returns-2
 returns-2 c =
@@ -66,18 +39,6 @@ returns-2 c =
       the-verdict-in .ensures .1,
     )
 
-tail-at-requires : tie.Need-tail-at-requires
-tail-at-requires c κs = search needs
-
-least-tail-requires : tie.Need-least-tail-requires
-least-tail-requires c κs = search needs
-
-gap-requires-3 : tie.Need-gap-requires-3
-gap-requires-3 c κs = search needs
-
-same-length-2 : tie.Need-same-length-2
-same-length-2 c = search needs
-
 returns-3 : tie.Need-returns-3
 returns-3 c =
     let a = c .before .before .before .before .before .before .before .before .before .before .before .before .before .before .before .before .before .before .before .args in
@@ -90,15 +51,6 @@ returns-3 c =
           (the-tail-at .result) (subst (λ (q : ℕ). Tail (captureOf (a .s .now) (a .n) (a .t)) q (the-tail-at .result)) (ap (λ (b : ℕ). a .p + b) (c .before .before .before .before .before .before .before .before .before .before .before .body .ensures)) (the-tail-at .ensures (a .t))) (omega (arith, c .before .before .least-tail .ensures))),
       c .before .before .before .before .before .before .before .before .verdict-in .ensures .1,
     )
-
-enum-told : tie.Need-enum-told
-enum-told c = search needs
-
-gap-requires-4 : tie.Need-gap-requires-4
-gap-requires-4 c κs = search needs
-
-same-length-3 : tie.Need-same-length-3
-same-length-3 c = search needs
 
 returns-4 : tie.Need-returns-4
 returns-4 c =
@@ -129,26 +81,6 @@ returns-5 c =
 pub frame-at-spec : {M : Type 1} → statement M
 frame-at-spec =
     tie.close
-    (tie.spec
-    octets-requires
-    kind-of-requires
-    enum-known-k
-    body-requires
-    add-behind
-    gap-requires
-    returns
-    verdict-in-requires
-    allowed-in-requires
-    gap-requires-2
-    same-length
-    returns-2
-    tail-at-requires
-    least-tail-requires
-    gap-requires-3
-    same-length-2
-    returns-3
-    enum-told
-    gap-requires-4
-    same-length-3
-    returns-4
-    returns-5)
+    (tie.spec (λ c κs. search needs) (λ c κs. search needs) (λ c. search needs) (λ c κs. search needs) add-behind (λ c κs. search needs) returns
+    (λ c κs. search needs) (λ c κs. search needs) (λ c κs. search needs) (λ c. search needs) returns-2 (λ c κs. search needs) (λ c κs. search needs)
+    (λ c κs. search needs) (λ c. search needs) returns-3 (λ c. search needs) (λ c κs. search needs) (λ c. search needs) returns-4 returns-5)

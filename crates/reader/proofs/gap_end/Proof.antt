@@ -26,12 +26,6 @@ abbrev μ-places : tie.MeasureT-places
 places-holds : tie.Need-places-holds Inv-loop μ-loop Inv-places μ-places
 places-holds c = (omega arith, omega arith, λ i a b. absurd (omega arith), c .before .before .pre .3)
 
-add-places : tie.Need-add-places Inv-loop μ-loop Inv-places μ-places
-add-places c = search needs
-
-sub-sync-from : tie.Need-sub-sync-from Inv-loop μ-loop Inv-places μ-places
-sub-sync-from c = search needs
-
 sync-from-requires : tie.Need-sync-from-requires Inv-loop μ-loop Inv-places μ-places
 sync-from-requires c κs = (omega arith, omega arith, omega arith)
 
@@ -55,9 +49,6 @@ loop-holds c =
     let r = c .before .sync-from in
     (refl, omega arith, omega (arith, r .ensures .from), omega arith, passed-over (captureOf (a .s .now) (a .n) (a .t)) (a .from) (l .q) (l .inv .2) (a .n - 158) (r .result) (r .ensures))
 
-array-read-place : tie.Need-array-read-place Inv-loop μ-loop Inv-places μ-places
-array-read-place c = search needs
-
 cast-place : tie.Need-cast-place Inv-loop μ-loop Inv-places μ-places
 cast-place c = omega (arith, sync-place (c .before .loop .j) (omega arith))
 
@@ -67,9 +58,6 @@ add-place c = omega (arith, sync-place (c .before .loop .j) (omega arith))
 bit-requires : tie.Need-bit-requires Inv-loop μ-loop Inv-places μ-places
 bit-requires c κs = omega (arith, sync-place (c .before .loop .j) (omega arith))
 
-add-q : tie.Need-add-q Inv-loop μ-loop Inv-places μ-places
-add-q c = search needs
-
 places-less : tie.Need-places-less Inv-loop μ-loop Inv-places μ-places
 places-less c = omega (arith, c .before .before .before .before .before .sync-from .ensures .from)
 
@@ -78,12 +66,6 @@ places-again c =
     let a = c .before .before .before .before .before .before .before .before .before .before .args in
     let l = c .before .before .before .loop in
     (omega arith, omega arith, passed-more (captureOf (a .s .now) (a .n) (a .t)) (a .from) (l .q) (l .inv .4) (none-differs (captureOf (a .s .now) (a .n) (a .t)) (l .q) (l .j) (c .before .bit .result) (omega arith) (c .before .bit .ensures) (c .if2 .taken)), c .before .before .before .before .before .before .before .places .inv .3)
-
-add-j : tie.Need-add-j Inv-loop μ-loop Inv-places μ-places
-add-j c = search needs
-
-loop-less : tie.Need-loop-less Inv-loop μ-loop Inv-places μ-places
-loop-less c = search needs
 
 loop-again : tie.Need-loop-again Inv-loop μ-loop Inv-places μ-places
 loop-again c = let l = c .before .before .before .loop in (l .inv .0, omega arith, omega arith, omega arith, l .inv .4)
@@ -100,9 +82,6 @@ returns-2 c =
     let l = c .before .before .before .before .before .before .loop in
     let s = c .before .before .before .starts-at in
     (gap-found (captureOf (a .s .now) (a .n) (a .t)) (a .from) (l .q) (l .inv .4) (omega arith) (omega arith) (s .result) (s .ensures .0) (c .if3 .taken), s .ensures .1)
-
-add-q-2 : tie.Need-add-q-2 Inv-loop μ-loop Inv-places μ-places
-add-q-2 c = search needs
 
 places-less-2 : tie.Need-places-less-2 Inv-loop μ-loop Inv-places μ-places
 places-less-2 c = omega (arith, c .before .before .before .before .before .before .before .before .sync-from .ensures .from)
@@ -126,34 +105,6 @@ returns-3 c =
 pub gap-end-spec : {M : Type 1} → statement M
 gap-end-spec =
     tie.close
-    (tie.spec
-    Inv-loop
-    μ-loop
-    Inv-places
-    μ-places
-    places-holds
-    add-places
-    sub-sync-from
-    sync-from-requires
-    add-if1
-    same-length
-    returns
-    loop-holds
-    array-read-place
-    cast-place
-    add-place
-    bit-requires
-    add-q
-    places-less
-    places-again
-    add-j
-    loop-less
-    loop-again
-    starts-at-requires
-    same-length-2
-    returns-2
-    add-q-2
-    places-less-2
-    places-again-2
-    same-length-3
-    returns-3)
+    (tie.spec Inv-loop μ-loop Inv-places μ-places places-holds (λ c. search needs) (λ c. search needs) sync-from-requires add-if1 same-length returns
+    loop-holds (λ c. search needs) cast-place add-place bit-requires (λ c. search needs) places-less places-again (λ c. search needs)
+    (λ c. search needs) loop-again starts-at-requires same-length-2 returns-2 (λ c. search needs) places-less-2 places-again-2 same-length-3 returns-3)

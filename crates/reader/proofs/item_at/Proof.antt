@@ -7,38 +7,11 @@ use borrow.Author.Needs.{needs}
 use Rattle.reader.proofs.item_at.Statement.{statement}
 use Rattle.reader.proofs.item_at.Tie as tie
 
-frame-at-requires : tie.Need-frame-at-requires
-frame-at-requires c κs = search needs
-
-enum-told : tie.Need-enum-told
-enum-told c = search needs
-
-enum-told-2 : tie.Need-enum-told-2
-enum-told-2 c = search needs
-
-add-gap-end : tie.Need-add-gap-end
-add-gap-end c = search needs
-
-gap-end-requires : tie.Need-gap-end-requires
-gap-end-requires c κs = search needs
-
-sub-gap : tie.Need-sub-gap
-sub-gap c = search needs
-
-gap-requires : tie.Need-gap-requires
-gap-requires c κs = search needs
-
-same-length : tie.Need-same-length
-same-length c = search needs
-
 returns : tie.Need-returns
 returns c =
     let a = c .before .before .before .before .before .before .before .before .args in
     let seen = c .before .before .before .before .frame-at in
     (item-frame (captureOf (a .s .now) (a .n) (a .t)) (a .c) (seen .result) (seen .ensures .0) (c .enum-told .given .0 .0) (c .enum-told .given .1), seen .ensures .1)
-
-same-length-2 : tie.Need-same-length-2
-same-length-2 c = search needs
 
 returns-2 : tie.Need-returns-2
 returns-2 c =
@@ -50,15 +23,5 @@ returns-2 c =
 pub item-at-spec : {M : Type 1} → statement M
 item-at-spec =
     tie.close
-    (tie.spec
-    frame-at-requires
-    enum-told
-    enum-told-2
-    add-gap-end
-    gap-end-requires
-    sub-gap
-    gap-requires
-    same-length
-    returns
-    same-length-2
-    returns-2)
+    (tie.spec (λ c κs. search needs) (λ c. search needs) (λ c. search needs) (λ c. search needs) (λ c κs. search needs) (λ c. search needs)
+    (λ c κs. search needs) (λ c. search needs) returns (λ c. search needs) returns-2)

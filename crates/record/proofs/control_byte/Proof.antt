@@ -7,74 +7,26 @@ use borrow.Author.Needs.{needs}
 use Rattle.record.proofs.control_byte.Statement.{statement}
 use Rattle.record.proofs.control_byte.Tie as tie
 
-enum-told : tie.Need-enum-told
-enum-told c = search needs
-
-slice-aggregate-top-byte : tie.Need-slice-aggregate-top-byte
-slice-aggregate-top-byte c = search needs
-
 top-byte-requires : tie.Need-top-byte-requires
 top-byte-requires c κs = control-few Speech
-
-enum-told-2 : tie.Need-enum-told-2
-enum-told-2 c = search needs
-
-slice-aggregate-top-byte-2 : tie.Need-slice-aggregate-top-byte-2
-slice-aggregate-top-byte-2 c = search needs
 
 top-byte-requires-2 : tie.Need-top-byte-requires-2
 top-byte-requires-2 c κs = control-few Data
 
-enum-told-3 : tie.Need-enum-told-3
-enum-told-3 c = search needs
-
-slice-aggregate-top-byte-3 : tie.Need-slice-aggregate-top-byte-3
-slice-aggregate-top-byte-3 c = search needs
-
 top-byte-requires-3 : tie.Need-top-byte-requires-3
 top-byte-requires-3 c κs = control-few Om
-
-enum-told-4 : tie.Need-enum-told-4
-enum-told-4 c = search needs
-
-slice-aggregate-top-byte-4 : tie.Need-slice-aggregate-top-byte-4
-slice-aggregate-top-byte-4 c = search needs
 
 top-byte-requires-4 : tie.Need-top-byte-requires-4
 top-byte-requires-4 c κs = control-few Configuration
 
-enum-told-5 : tie.Need-enum-told-5
-enum-told-5 c = search needs
-
-slice-aggregate-top-byte-5 : tie.Need-slice-aggregate-top-byte-5
-slice-aggregate-top-byte-5 c = search needs
-
 top-byte-requires-5 : tie.Need-top-byte-requires-5
 top-byte-requires-5 c κs = control-few NoSpeech
-
-enum-told-6 : tie.Need-enum-told-6
-enum-told-6 c = search needs
-
-slice-aggregate-top-byte-6 : tie.Need-slice-aggregate-top-byte-6
-slice-aggregate-top-byte-6 c = search needs
 
 top-byte-requires-6 : tie.Need-top-byte-requires-6
 top-byte-requires-6 c κs = control-few Lower
 
-enum-told-7 : tie.Need-enum-told-7
-enum-told-7 c = search needs
-
-slice-aggregate-top-byte-7 : tie.Need-slice-aggregate-top-byte-7
-slice-aggregate-top-byte-7 c = search needs
-
 top-byte-requires-7 : tie.Need-top-byte-requires-7
 top-byte-requires-7 c κs = control-few Amr670
-
-enum-told-8 : tie.Need-enum-told-8
-enum-told-8 c = search needs
-
-slice-aggregate-top-byte-8 : tie.Need-slice-aggregate-top-byte-8
-slice-aggregate-top-byte-8 c = search needs
 
 top-byte-requires-8 : tie.Need-top-byte-requires-8
 top-byte-requires-8 c κs = control-few Amr740
@@ -114,36 +66,8 @@ returns-8 c = rw (c .before .before .enum-told8 .given .1) (c .top-byte8 .ensure
 pub control-byte-spec : {M : Type 1} → statement M
 control-byte-spec =
     tie.close
-    (tie.spec
-    enum-told
-    slice-aggregate-top-byte
-    top-byte-requires
-    enum-told-2
-    slice-aggregate-top-byte-2
-    top-byte-requires-2
-    enum-told-3
-    slice-aggregate-top-byte-3
-    top-byte-requires-3
-    enum-told-4
-    slice-aggregate-top-byte-4
-    top-byte-requires-4
-    enum-told-5
-    slice-aggregate-top-byte-5
-    top-byte-requires-5
-    enum-told-6
-    slice-aggregate-top-byte-6
-    top-byte-requires-6
-    enum-told-7
-    slice-aggregate-top-byte-7
-    top-byte-requires-7
-    enum-told-8
-    slice-aggregate-top-byte-8
-    top-byte-requires-8
-    returns
-    returns-2
-    returns-3
-    returns-4
-    returns-5
-    returns-6
-    returns-7
-    returns-8)
+    (tie.spec (λ c. search needs) (λ c. search needs) top-byte-requires (λ c. search needs) (λ c. search needs) top-byte-requires-2
+    (λ c. search needs) (λ c. search needs) top-byte-requires-3 (λ c. search needs) (λ c. search needs) top-byte-requires-4 (λ c. search needs)
+    (λ c. search needs) top-byte-requires-5 (λ c. search needs) (λ c. search needs) top-byte-requires-6 (λ c. search needs) (λ c. search needs)
+    top-byte-requires-7 (λ c. search needs) (λ c. search needs) top-byte-requires-8 returns returns-2 returns-3 returns-4 returns-5 returns-6
+    returns-7 returns-8)

@@ -6,14 +6,8 @@ use borrow.Author.Needs.{needs}
 use Rattle.record.proofs.d_length.Statement.{statement}
 use Rattle.record.proofs.d_length.Tie as tie
 
-d-count-requires : tie.Need-d-count-requires
-d-count-requires c κs = search needs
-
 add-result : tie.Need-add-result
 add-result c = omega (arith, d-count-le (c .before .args .k))
 
-returns : tie.Need-returns
-returns c = search needs
-
 pub d-length-spec : {M : Type 1} → statement M
-d-length-spec = tie.close (tie.spec d-count-requires add-result returns)
+d-length-spec = tie.close (tie.spec (λ c κs. search needs) add-result (λ c. search needs))

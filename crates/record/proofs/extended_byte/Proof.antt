@@ -12,12 +12,6 @@ use borrow.Author.Tests.{ne-eqb}
 use Rattle.record.proofs.extended_byte.Statement.{statement}
 use Rattle.record.proofs.extended_byte.Tie as tie
 
-number-requires : tie.Need-number-requires
-number-requires c κs = search needs
-
-slice-aggregate-top-byte : tie.Need-slice-aggregate-top-byte
-slice-aggregate-top-byte c = search needs
-
 top-byte-requires : tie.Need-top-byte-requires
 top-byte-requires c κs = (listed-below 160 (take 5 xcPlaces ++ crcPlaces) tt, omega arith)
 
@@ -38,4 +32,4 @@ returns-3 c =
     rw (extended-no (bitAt (a .o)) (a .k), ← c .before .number .ensures, ne-eqb n 1 (c .match .rest .0 .1), ne-eqb n 3 (c .match .rest .1))
 
 pub extended-byte-spec : {M : Type 1} → statement M
-extended-byte-spec = tie.close (tie.spec number-requires slice-aggregate-top-byte top-byte-requires returns returns-2 returns-3)
+extended-byte-spec = tie.close (tie.spec (λ c κs. search needs) (λ c. search needs) top-byte-requires returns returns-2 returns-3)

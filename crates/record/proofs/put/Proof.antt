@@ -8,29 +8,17 @@ use borrow.Author.Needs.{needs}
 use Rattle.record.proofs.put.Statement.{statement}
 use Rattle.record.proofs.put.Tie as tie
 
-enum-known-kind : tie.Need-enum-known-kind
-enum-known-kind c = search needs
-
-number-requires : tie.Need-number-requires
-number-requires c κs = search needs
-
 put-front-requires : tie.Need-put-front-requires
 put-front-requires c κs =
     let s = c .before .before .before .before .before .before .before .before .before in
     let f = c .before .before .before .kind in
     omega (arith, s .pre .0, size-frame (s .args .i) (f .given .0 .0) (f .given .1))
 
-control-byte-requires : tie.Need-control-byte-requires
-control-byte-requires c κs = search needs
-
 slice-write-out : tie.Need-slice-write-out
 slice-write-out c =
     let s = c .before .before .before .before .before .before .before .before .before .before .before .before .before in
     let f = c .before .before .before .before .before .before .before .kind in
     omega (arith, c .before .before .before .put-front .kept .0, s .pre .0, size-frame (s .args .i) (f .given .0 .0) (f .given .1))
-
-extended-byte-requires : tie.Need-extended-byte-requires
-extended-byte-requires c κs = search needs
 
 slice-write-out-2 : tie.Need-slice-write-out-2
 slice-write-out-2 c =
@@ -49,9 +37,6 @@ put-d-requires c κs =
     let s = c .before .before .before .before .before .before .before .before .before .before .before .before .before .before .before in
     let f = c .before .before .before .before .before .before .before .before .before .kind in
     (simp length-set (omega (arith, c .before .before .before .before .before .put-front .kept .0, s .pre .0, size-frame (s .args .i) (f .given .0 .0) (f .given .1))), s .pre .1 (f .given .0 .0) (f .given .1))
-
-enum-told : tie.Need-enum-told
-enum-told c = search needs
 
 put-front-requires-2 : tie.Need-put-front-requires-2
 put-front-requires-2 c κs =
@@ -73,9 +58,6 @@ returns c =
     frame-put (s .args .i) (f .given .0 .0) (s .args .out .now) (front .last .0) (d .last .0) (number .result) (control .result) (extended .result) (f .given .1)
     (s .pre .0) (number .ensures) (front .ensures) (control .ensures) (extended .ensures) (d .ensures)
 
-same-length-2 : tie.Need-same-length-2
-same-length-2 c = search needs
-
 returns-2 : tie.Need-returns-2
 returns-2 c =
     let a = c .before .before .before .before .before .before .before .before .before .before .args in
@@ -85,19 +67,5 @@ returns-2 c =
 pub put-spec : {M : Type 1} → statement M
 put-spec =
     tie.close
-    (tie.spec
-    enum-known-kind
-    number-requires
-    put-front-requires
-    control-byte-requires
-    slice-write-out
-    extended-byte-requires
-    slice-write-out-2
-    slice-write-out-3
-    put-d-requires
-    enum-told
-    put-front-requires-2
-    same-length
-    returns
-    same-length-2
-    returns-2)
+    (tie.spec (λ c. search needs) (λ c κs. search needs) put-front-requires (λ c κs. search needs) slice-write-out (λ c κs. search needs)
+    slice-write-out-2 slice-write-out-3 put-d-requires (λ c. search needs) put-front-requires-2 same-length returns (λ c. search needs) returns-2)

@@ -20,9 +20,6 @@ abbrev μ-loop : tie.MeasureT-loop
 d-bytes-requires : tie.Need-d-bytes-requires Inv-loop μ-loop
 d-bytes-requires c κs = c .before .before .before .pre .1
 
-d-length-requires : tie.Need-d-length-requires Inv-loop μ-loop
-d-length-requires c κs = search needs
-
 loop-holds : tie.Need-loop-holds Inv-loop μ-loop
 loop-holds c = (omega arith, refl, paste-zero (c .before .before .before .before .before .args .out .now) 12 (c .before .d-bytes .result))
 
@@ -38,9 +35,6 @@ add-out c =
 
 slice-write-out : tie.Need-slice-write-out Inv-loop μ-loop
 slice-write-out c = omega (arith, c .before .before .d-length .ensures)
-
-add-j : tie.Need-add-j Inv-loop μ-loop
-add-j c = search needs
 
 loop-less : tie.Need-loop-less Inv-loop μ-loop
 loop-less c =
@@ -74,17 +68,5 @@ returns c =
 pub put-d-spec : {M : Type 1} → statement M
 put-d-spec =
     tie.close
-    (tie.spec
-    Inv-loop
-    μ-loop
-    d-bytes-requires
-    d-length-requires
-    loop-holds
-    array-read-out
-    add-out
-    slice-write-out
-    add-j
-    loop-less
-    loop-again
-    same-length
-    returns)
+    (tie.spec Inv-loop μ-loop d-bytes-requires (λ c κs. search needs) loop-holds array-read-out add-out slice-write-out (λ c. search needs) loop-less
+    loop-again same-length returns)

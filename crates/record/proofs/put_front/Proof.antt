@@ -7,53 +7,26 @@ use borrow.Author.Needs.{needs}
 use Rattle.record.proofs.put_front.Statement.{statement}
 use Rattle.record.proofs.put_front.Tie as tie
 
-slice-write-out : tie.Need-slice-write-out
-slice-write-out c = search needs
-
-cast-out : tie.Need-cast-out
-cast-out c = search needs
-
 slice-write-out-2 : tie.Need-slice-write-out-2
 slice-write-out-2 c = simp length-set (omega arith)
-
-cast-out-2 : tie.Need-cast-out-2
-cast-out-2 c = search needs
 
 slice-write-out-3 : tie.Need-slice-write-out-3
 slice-write-out-3 c = simp length-set (omega arith)
 
-cast-out-3 : tie.Need-cast-out-3
-cast-out-3 c = search needs
-
 slice-write-out-4 : tie.Need-slice-write-out-4
 slice-write-out-4 c = simp length-set (omega arith)
-
-cast-out-4 : tie.Need-cast-out-4
-cast-out-4 c = search needs
 
 slice-write-out-5 : tie.Need-slice-write-out-5
 slice-write-out-5 c = simp length-set (omega arith)
 
-cast-out-5 : tie.Need-cast-out-5
-cast-out-5 c = search needs
-
 slice-write-out-6 : tie.Need-slice-write-out-6
 slice-write-out-6 c = simp length-set (omega arith)
-
-cast-out-6 : tie.Need-cast-out-6
-cast-out-6 c = search needs
 
 slice-write-out-7 : tie.Need-slice-write-out-7
 slice-write-out-7 c = simp length-set (omega arith)
 
-cast-out-7 : tie.Need-cast-out-7
-cast-out-7 c = search needs
-
 slice-write-out-8 : tie.Need-slice-write-out-8
 slice-write-out-8 c = simp length-set (omega arith)
-
-cast-out-8 : tie.Need-cast-out-8
-cast-out-8 c = search needs
 
 slice-write-out-9 : tie.Need-slice-write-out-9
 slice-write-out-9 c = simp length-set (omega arith)
@@ -67,23 +40,6 @@ returns c = front-bytes (c .args .kind) (c .args .start) (c .args .span) (c .arg
 pub put-front-spec : {M : Type 1} → statement M
 put-front-spec =
     tie.close
-    (tie.spec
-    slice-write-out
-    cast-out
-    slice-write-out-2
-    cast-out-2
-    slice-write-out-3
-    cast-out-3
-    slice-write-out-4
-    cast-out-4
-    slice-write-out-5
-    cast-out-5
-    slice-write-out-6
-    cast-out-6
-    slice-write-out-7
-    cast-out-7
-    slice-write-out-8
-    cast-out-8
-    slice-write-out-9
-    same-length
-    returns)
+    (tie.spec (λ c. search needs) (λ c. search needs) slice-write-out-2 (λ c. search needs) slice-write-out-3 (λ c. search needs) slice-write-out-4
+    (λ c. search needs) slice-write-out-5 (λ c. search needs) slice-write-out-6 (λ c. search needs) slice-write-out-7 (λ c. search needs)
+    slice-write-out-8 (λ c. search needs) slice-write-out-9 same-length returns)

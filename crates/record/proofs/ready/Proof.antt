@@ -17,18 +17,6 @@ same-kind i j k p q = cc
 never : (i : ItemKind) (k : Kind) → i ≡ of.Frame k → i ≡ of.Gap → ⊥
 never i k p q = let z : _≡_ {A = ℕ} 0 1 = cc in omega arith
 
-enum-known-kind : tie.Need-enum-known-kind
-enum-known-kind c = search needs
-
-ready-requires : tie.Need-ready-requires
-ready-requires c κs = search needs
-
-enum-told : tie.Need-enum-told
-enum-told c = search needs
-
-same-length : tie.Need-same-length
-same-length c = search needs
-
 returns : tie.Need-returns
 returns c =
     let a = c .before .before .before .before .before .before .before .before .before .args in
@@ -40,5 +28,4 @@ returns-2 : tie.Need-returns-2
 returns-2 c = (c .before .before .before .before .pre, λ k e. absurd (never (c .before .before .before .before .args .kind) k e (c .enum-told .given .1)))
 
 pub ready-spec : {M : Type 1} → statement M
-ready-spec =
-    tie.close (tie.spec enum-known-kind ready-requires enum-told same-length returns returns-2)
+ready-spec = tie.close (tie.spec (λ c. search needs) (λ c κs. search needs) (λ c. search needs) (λ c. search needs) returns returns-2)

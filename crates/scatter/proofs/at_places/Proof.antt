@@ -23,23 +23,8 @@ abbrev μ-loop : tie.MeasureT-loop
 loop-holds : tie.Need-loop-holds Inv-loop μ-loop
 loop-holds c = (omega arith, refl, refl)
 
-shared-slice-read-p : tie.Need-shared-slice-read-p Inv-loop μ-loop
-shared-slice-read-p c = search needs
-
 cast-p : tie.Need-cast-p Inv-loop μ-loop
 cast-p c = omega (arith, c .before .before .before .before .before .pre .0 (c .before .before .loop .j) (omega arith))
-
-run-at-requires : tie.Need-run-at-requires Inv-loop μ-loop
-run-at-requires c κs = search needs
-
-slice-aggregate-put-top : tie.Need-slice-aggregate-put-top Inv-loop μ-loop
-slice-aggregate-put-top c = search needs
-
-shared-slice-read-from-bit : tie.Need-shared-slice-read-from-bit Inv-loop μ-loop
-shared-slice-read-from-bit c = search needs
-
-from-bit-requires : tie.Need-from-bit-requires Inv-loop μ-loop
-from-bit-requires c κs = search needs
 
 put-top-requires : tie.Need-put-top-requires Inv-loop μ-loop
 put-top-requires c κs =
@@ -48,12 +33,6 @@ put-top-requires c κs =
     let h : length (l .octets) ≡ 20 = search needs in
     let below = c .before .before .before .before .before .before .before .before .before .pre .0 (l .j) (omega arith) in
     (r .ensures .octet, omega (arith, r .ensures .octet))
-
-add-j : tie.Need-add-j Inv-loop μ-loop
-add-j c = search needs
-
-loop-less : tie.Need-loop-less Inv-loop μ-loop
-loop-less c = search needs
 
 loop-again : tie.Need-loop-again Inv-loop μ-loop
 loop-again c =
@@ -75,18 +54,5 @@ returns c =
 pub at-places-spec : {M : Type 1} → statement M
 at-places-spec =
     tie.close
-    (tie.spec
-    Inv-loop
-    μ-loop
-    loop-holds
-    shared-slice-read-p
-    cast-p
-    run-at-requires
-    slice-aggregate-put-top
-    shared-slice-read-from-bit
-    from-bit-requires
-    put-top-requires
-    add-j
-    loop-less
-    loop-again
-    returns)
+    (tie.spec Inv-loop μ-loop loop-holds (λ c. search needs) cast-p (λ c κs. search needs) (λ c. search needs) (λ c. search needs)
+    (λ c κs. search needs) put-top-requires (λ c. search needs) (λ c. search needs) loop-again returns)

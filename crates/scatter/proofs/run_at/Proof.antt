@@ -24,35 +24,14 @@ small x r most h l m = omega arith
 lt-of : (j r most n : ℕ) → r < most → j + most ≤ n → j + r < n
 lt-of j r most n l h = omega arith
 
-shared-slice-read-p : tie.Need-shared-slice-read-p Inv-loop μ-loop
-shared-slice-read-p c = search needs
-
 cast-p : tie.Need-cast-p Inv-loop μ-loop
 cast-p c = omega (arith, c .shared-slice-known2 .given (c .before .before .args .j))
-
-sub-least : tie.Need-sub-least Inv-loop μ-loop
-sub-least c = search needs
-
-sub-least-2 : tie.Need-sub-least-2 Inv-loop μ-loop
-sub-least-2 c = search needs
-
-least-requires : tie.Need-least-requires Inv-loop μ-loop
-least-requires c κs = search needs
-
-sub-least-3 : tie.Need-sub-least-3 Inv-loop μ-loop
-sub-least-3 c = search needs
-
-least-requires-2 : tie.Need-least-requires-2 Inv-loop μ-loop
-least-requires-2 c κs = search needs
 
 loop-holds : tie.Need-loop-holds Inv-loop μ-loop
 loop-holds c =
     let a = c .before .before .before .before .args in
     let room = room-is (a .places .now) (a .j) (c .before .least .result) (c .least2 .result) (c .before .before .before .before .pre) (c .before .least .ensures) (c .least2 .ensures) in
     (run-first (a .places .now) (a .j) (c .before .before .before .before .pre), room .0, room)
-
-add-if1 : tie.Need-add-if1 Inv-loop μ-loop
-add-if1 c = search needs
 
 shared-slice-read-if1 : tie.Need-shared-slice-read-if1 Inv-loop μ-loop
 shared-slice-read-if1 c = lt-of (c .before .before .before .before .before .before .before .args .j) (c .before .before .loop .r) _ _ (c .before .loop-test .taken) (c .before .before .loop .inv .2 .1)
@@ -65,9 +44,6 @@ add-if1-2 c = record { fits = small _ _ _ (c .shared-slice-known3 .given (c .bef
 
 returns : tie.Need-returns Inv-loop μ-loop
 returns c = c .before .before .before .loop .inv .0
-
-add-r : tie.Need-add-r Inv-loop μ-loop
-add-r c = search needs
 
 loop-less : tie.Need-loop-less Inv-loop μ-loop
 loop-less c = falls _ _ (c .before .before .loop-test .taken)
@@ -85,23 +61,6 @@ returns-2 c = let l = c .before .loop in let e : l .r ≡ c .before .before .lea
 pub run-at-spec : {M : Type 1} → statement M
 run-at-spec =
     tie.close
-    (tie.spec
-    Inv-loop
-    μ-loop
-    shared-slice-read-p
-    cast-p
-    sub-least
-    sub-least-2
-    least-requires
-    sub-least-3
-    least-requires-2
-    loop-holds
-    add-if1
-    shared-slice-read-if1
-    cast-if1
-    add-if1-2
-    returns
-    add-r
-    loop-less
-    loop-again
+    (tie.spec Inv-loop μ-loop (λ c. search needs) cast-p (λ c. search needs) (λ c. search needs) (λ c κs. search needs) (λ c. search needs)
+    (λ c κs. search needs) loop-holds (λ c. search needs) shared-slice-read-if1 cast-if1 add-if1-2 returns (λ c. search needs) loop-less loop-again
     returns-2)

@@ -6,15 +6,6 @@ use borrow.Author.Needs.{needs}
 use Rattle.tails.proofs.first_zero.Statement.{statement}
 use Rattle.tails.proofs.first_zero.Tie as tie
 
-sub-zeros : tie.Need-sub-zeros
-sub-zeros c = search needs
-
-cast-zeros : tie.Need-cast-zeros
-cast-zeros c = search needs
-
-shr-zeros : tie.Need-shr-zeros
-shr-zeros c = search needs
-
 rem-zeros : tie.Need-rem-zeros
 rem-zeros c = shifted-positive (c .args .r) (c .pre)
 
@@ -28,5 +19,4 @@ returns : tie.Need-returns
 returns c = counted-first (c .args .x) (c .args .r) (omega (arith, c .fits .x)) (c .pre)
 
 pub first-zero-spec : {M : Type 1} → statement M
-first-zero-spec =
-    tie.close (tie.spec sub-zeros cast-zeros shr-zeros rem-zeros sub-result cast-result returns)
+first-zero-spec = tie.close (tie.spec (λ c. search needs) (λ c. search needs) (λ c. search needs) rem-zeros sub-result cast-result returns)

@@ -20,20 +20,11 @@ abbrev μ-loop : tie.MeasureT-loop
 loop-holds : tie.Need-loop-holds Inv-loop μ-loop
 loop-holds c = (omega arith, λ i a b. absurd (omega arith), omega arith)
 
-shared-slice-read-first-zero : tie.Need-shared-slice-read-first-zero Inv-loop μ-loop
-shared-slice-read-first-zero c = search needs
-
 first-zero-requires : tie.Need-first-zero-requires Inv-loop μ-loop
 first-zero-requires c κs = omega arith
 
-mul-stop : tie.Need-mul-stop Inv-loop μ-loop
-mul-stop c = search needs
-
 add-stop : tie.Need-add-stop Inv-loop μ-loop
 add-stop c = omega (arith, c .first-zero .ensures .within)
-
-sub-result : tie.Need-sub-result Inv-loop μ-loop
-sub-result c = search needs
 
 returns : tie.Need-returns Inv-loop μ-loop
 returns c =
@@ -62,9 +53,6 @@ loop-again c =
     let z = c .before .before .first-zero in
     (omega (arith, z .ensures .from), ones-more (a .s .now) (a .q) (l .end) (z .result) (l .inv .1) (z .ensures), omega arith)
 
-sub-result-3 : tie.Need-sub-result-3 Inv-loop μ-loop
-sub-result-3 c = search needs
-
 returns-3 : tie.Need-returns-3 Inv-loop μ-loop
 returns-3 c =
     let a = c .before .before .before .args in
@@ -74,19 +62,5 @@ returns-3 c =
 pub tail-at-spec : {M : Type 1} → statement M
 tail-at-spec =
     tie.close
-    (tie.spec
-    Inv-loop
-    μ-loop
-    loop-holds
-    shared-slice-read-first-zero
-    first-zero-requires
-    mul-stop
-    add-stop
-    sub-result
-    returns
-    sub-result-2
-    returns-2
-    loop-less
-    loop-again
-    sub-result-3
-    returns-3)
+    (tie.spec Inv-loop μ-loop loop-holds (λ c. search needs) first-zero-requires (λ c. search needs) add-stop (λ c. search needs) returns sub-result-2
+    returns-2 loop-less loop-again (λ c. search needs) returns-3)

@@ -45,9 +45,6 @@ part-frame-of-end c = omega arith
 frame-of-requires : tie.Need-frame-of-requires Inv-loop μ-loop
 frame-of-requires c κs = (omega (arith, length-tail (c .before .before .before .loop .at) (c .before .before .before .before .before .before .before .before .args .records .now)), c .before .before .before .loop .inv .2)
 
-enum-known-kind : tie.Need-enum-known-kind Inv-loop μ-loop
-enum-known-kind c = search needs
-
 number-requires : tie.Need-number-requires Inv-loop μ-loop
 number-requires c κs = (c .before .before .before .before .before .before .frame-of .ensures .1, c .before .before .before .before .before .before .frame-of .ensures .2, c .before .before .before .before .before .before .before .before .before .before .loop .inv .1)
 
@@ -66,14 +63,8 @@ returns c =
     let judged = subst (λ (b : List ℕ). Judged (a .t) b (f .result)) (tail-is (l .at) (a .records .now)) (f .ensures .0) in
     (judged-refused (a .t) (a .bits) (cursorOf (a .c)) (a .records .now) (l .at) (l .items) (cursorOf (l .cursor)) (l .inv .0) (frameBy (f .result) k) (c .before .before .before .number .result) (judged-frame (a .t) _ (f .result) k judged (c .before .before .before .before .before .before .kind .given .1)) (c .before .before .before .number .ensures .0) (c .if1 .taken) (omega arith), f .ensures .3)
 
-frame-requires : tie.Need-frame-requires Inv-loop μ-loop
-frame-requires c κs = search needs
-
 over-requires : tie.Need-over-requires Inv-loop μ-loop
 over-requires c κs = subst (λ (i : Item). (i .start ≤ 4294967295) × (i .length ≤ 4294967295)) (sym (c .frame .ensures)) (c .before .before .before .before .before .before .before .before .before .before .before .frame-of .ensures .1, c .before .before .before .before .before .before .before .before .before .before .before .frame-of .ensures .2)
-
-size-requires : tie.Need-size-requires Inv-loop μ-loop
-size-requires c κs = search needs
 
 add-at : tie.Need-add-at Inv-loop μ-loop
 add-at c = omega (arith, c .before .before .before .before .before .before .before .before .before .before .before .before .before .before .before .before .before .loop .inv .0 .inside, c .size .ensures, size-le (frame (frameBy (c .before .before .before .before .before .before .before .before .before .before .before .before .before .frame-of .result) (c .before .before .before .before .before .before .before .before .before .kind .given .0 .0))), c .before .before .before .before .before .before .before .before .before .before .before .before .before .before .before .before .before .before .before .before .before .before .pre .0)
@@ -96,9 +87,6 @@ loop-again c =
       c .before .before .before .before .before .before .number .ensures .1,
       f .ensures .3,
     )
-
-enum-told : tie.Need-enum-told Inv-loop μ-loop
-enum-told c = search needs
 
 same-length-3 : tie.Need-same-length-3 Inv-loop μ-loop
 same-length-3 c = c .before .before .before .before .before .before .before .before .loop .inv .1 .size ∙ sym (c .before .before .before .before .before .before .before .before .before .before .before .before .before .pre .1 .size)
@@ -127,4 +115,8 @@ returns-3 c =
     (judged-all (a .t) (a .bits) (cursorOf (a .c)) (a .records .now) (l .at) (l .items) (cursorOf (l .cursor)) (l .inv .0) (omega arith), l .inv .2)
 
 pub judge-all-spec : {M : Type 1} → statement M
-judge-all-spec = tie.close (tie.spec Inv-loop μ-loop loop-holds sub-frame-of part-frame-of-start part-frame-of-end frame-of-requires enum-known-kind number-requires same-length same-length-2 returns frame-requires over-requires size-requires add-at add-items loop-less loop-again enum-told same-length-3 same-length-4 returns-2 same-length-5 same-length-6 returns-3)
+judge-all-spec =
+    tie.close
+    (tie.spec Inv-loop μ-loop loop-holds sub-frame-of part-frame-of-start part-frame-of-end frame-of-requires (λ c. search needs) number-requires
+    same-length same-length-2 returns (λ c κs. search needs) over-requires (λ c κs. search needs) add-at add-items loop-less loop-again
+    (λ c. search needs) same-length-3 same-length-4 returns-2 same-length-5 same-length-6 returns-3)

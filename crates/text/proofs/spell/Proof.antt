@@ -20,31 +20,16 @@ loop-holds c =
     let b = c .before in
     (spelled-none (b .args .n) (b .args .digits .now) (omega (arith, b .fits .n)) (b .pre), b .pre, omega arith)
 
-digit-requires : tie.Need-digit-requires Inv-loop μ-loop
-digit-requires c κs = search needs
-
-slice-write-digits : tie.Need-slice-write-digits Inv-loop μ-loop
-slice-write-digits c = search needs
-
 sub-from : tie.Need-sub-from Inv-loop μ-loop
 sub-from c =
     let l = c .before .before .loop in
     spelled-some (c .before .before .before .before .args .n) (l .rest) (l .digits) (l .from) (l .inv .0) (omega arith)
-
-loop-less : tie.Need-loop-less Inv-loop μ-loop
-loop-less c = search needs
 
 loop-again : tie.Need-loop-again Inv-loop μ-loop
 loop-again c =
     let l = c .before .before .loop in
     let a = c .before .before .before .before .args in
     (rw (c .digit .ensures) (spelled-next (a .n) (l .rest) (l .digits) (l .from) (l .inv .0) (omega arith)), length-set (l .digits) (l .from) _ ∙ l .inv .1, omega (arith, l .inv .2))
-
-digit-requires-2 : tie.Need-digit-requires-2 Inv-loop μ-loop
-digit-requires-2 c κs = search needs
-
-slice-write-digits-2 : tie.Need-slice-write-digits-2 Inv-loop μ-loop
-slice-write-digits-2 c = search needs
 
 same-length : tie.Need-same-length Inv-loop μ-loop
 same-length c =
@@ -59,16 +44,5 @@ returns c =
 pub spell-spec : {M : Type 1} → statement M
 spell-spec =
     tie.close
-    (tie.spec
-    Inv-loop
-    μ-loop
-    loop-holds
-    digit-requires
-    slice-write-digits
-    sub-from
-    loop-less
-    loop-again
-    digit-requires-2
-    slice-write-digits-2
-    same-length
-    returns)
+    (tie.spec Inv-loop μ-loop loop-holds (λ c κs. search needs) (λ c. search needs) sub-from (λ c. search needs) loop-again (λ c κs. search needs)
+    (λ c. search needs) same-length returns)

@@ -7,12 +7,6 @@ use borrow.Author.Needs.{needs}
 use Rattle.verdict.proofs.mode_in.Statement.{statement}
 use Rattle.verdict.proofs.mode_in.Tie as tie
 
-own-mode-requires : tie.Need-own-mode-requires
-own-mode-requires c κs = search needs
-
-context-mode-requires : tie.Need-context-mode-requires
-context-mode-requires c κs = search needs
-
 returns : tie.Need-returns
 returns c =
     let own = c .before .before .own-mode in
@@ -24,4 +18,4 @@ returns-2 c =
     (own .ensures .0, λ o h. mode-own (c .before .before .args .x) (bitAt o) (own .result) (own .ensures .1 o h) (c .if1 .left))
 
 pub mode-in-spec : {M : Type 1} → statement M
-mode-in-spec = tie.close (tie.spec own-mode-requires context-mode-requires returns returns-2)
+mode-in-spec = tie.close (tie.spec (λ c κs. search needs) (λ c κs. search needs) returns returns-2)

@@ -7,9 +7,6 @@ use borrow.Author.Needs.{needs}
 use Rattle.verdict.proofs.own_mode.Statement.{statement}
 use Rattle.verdict.proofs.own_mode.Tie as tie
 
-field-of-requires : tie.Need-field-of-requires
-field-of-requires c κs = search needs
-
 returns : tie.Need-returns
 returns c = (omega arith, λ o h. own-named (bitAt o) (c .before .field-of .result) (c .before .field-of .ensures .1 (bitAt o) (h .first)) 0 (c .if1 .taken))
 
@@ -23,4 +20,4 @@ returns-4 : tie.Need-returns-4
 returns-4 c = (omega arith, λ o h. own-none (bitAt o) (c .before .before .before .field-of .result) (c .before .before .before .field-of .ensures .1 (bitAt o) (h .first)) (c .before .before .if1 .left) (c .before .if2 .left) (c .if3 .left))
 
 pub own-mode-spec : {M : Type 1} → statement M
-own-mode-spec = tie.close (tie.spec field-of-requires returns returns-2 returns-3 returns-4)
+own-mode-spec = tie.close (tie.spec (λ c κs. search needs) returns returns-2 returns-3 returns-4)

@@ -5,17 +5,11 @@ use borrow.Author.Needs.{needs}
 use Rattle.word.proofs.bit_at.Statement.{statement}
 use Rattle.word.proofs.bit_at.Tie as tie
 
-shared-slice-read-p : tie.Need-shared-slice-read-p
-shared-slice-read-p c = search needs
-
 cast-p : tie.Need-cast-p
 cast-p c = omega (arith, c .before .before .before .pre .1 (c .before .before .before .args .j) (c .before .before .before .pre .2))
 
 bit-requires : tie.Need-bit-requires
 bit-requires c κs = omega (arith, c .before .before .before .pre .0, c .before .before .before .pre .1 (c .before .before .before .args .j) (c .before .before .before .pre .2))
 
-returns : tie.Need-returns
-returns c = search needs
-
 pub bit-at-spec : {M : Type 1} → statement M
-bit-at-spec = tie.close (tie.spec shared-slice-read-p cast-p bit-requires returns)
+bit-at-spec = tie.close (tie.spec (λ c. search needs) cast-p bit-requires (λ c. search needs))

@@ -28,12 +28,6 @@ bit-at-requires c κs = (c .before .before .before .before .pre .0, c .before .b
 with-bit-requires : tie.Need-with-bit-requires Inv-loop μ-loop
 with-bit-requires c κs = omega (arith, pow-mono {i = c .before .before .loop .j} {j = 8} (omega arith))
 
-add-j : tie.Need-add-j Inv-loop μ-loop
-add-j c = search needs
-
-loop-less : tie.Need-loop-less Inv-loop μ-loop
-loop-less c = search needs
-
 loop-again : tie.Need-loop-again Inv-loop μ-loop
 loop-again c = (
   refl,
@@ -48,13 +42,4 @@ returns c = sym (c .before .loop .inv .3 ∙ number-end (c .before .before .befo
 pub field-spec : {M : Type 1} → statement M
 field-spec =
     tie.close
-    (tie.spec
-    Inv-loop
-    μ-loop
-    loop-holds
-    bit-at-requires
-    with-bit-requires
-    add-j
-    loop-less
-    loop-again
-    returns)
+    (tie.spec Inv-loop μ-loop loop-holds bit-at-requires with-bit-requires (λ c. search needs) (λ c. search needs) loop-again returns)

@@ -13,18 +13,6 @@ use Rattle.word.proofs.field_of.Tie as tie
 low-fits : (x c : ℕ) → c ≤ 8 → x % 2 ^ c < 2 ^ 32
 low-fits x c l = omega (arith, mod-lt x (pow-pos c), pow-mono {i = c} {j = 8} l)
 
-sub-result : tie.Need-sub-result
-sub-result c = search needs
-
-sub-result-2 : tie.Need-sub-result-2
-sub-result-2 c = search needs
-
-shr-result : tie.Need-shr-result
-shr-result c = search needs
-
-shl-result : tie.Need-shl-result
-shl-result c = search needs
-
 rem-result : tie.Need-rem-result
 rem-result c = rw (shl-one (c .args .c) (omega arith)) (pow-pos (c .args .c))
 
@@ -38,6 +26,4 @@ returns c =
     (mod-lt _ (pow-pos (a .c)), λ g h. rw h (rw (zero-add (a .p)) at (field-in g 64 0 (a .p) (a .c) (64 - a .p - a .c) (omega arith))))
 
 pub field-of-spec : {M : Type 1} → statement M
-field-of-spec =
-    tie.close
-    (tie.spec sub-result sub-result-2 shr-result shl-result rem-result cast-result returns)
+field-of-spec = tie.close (tie.spec (λ c. search needs) (λ c. search needs) (λ c. search needs) (λ c. search needs) rem-result cast-result returns)

@@ -10,12 +10,6 @@ use borrow.Author.Needs.{needs}
 use Rattle.word.proofs.fixed.Statement.{statement}
 use Rattle.word.proofs.fixed.Tie as tie
 
-both-requires : tie.Need-both-requires
-both-requires c κs = search needs
-
-both-requires-2 : tie.Need-both-requires-2
-both-requires-2 c κs = search needs
-
 returns : tie.Need-returns
 returns c = λ o zeros ons fixed ones h m v by.
     let a = c .before .before .before .before .before .before .before .before .before .before .before .args in
@@ -23,4 +17,4 @@ returns c = λ o zeros ons fixed ones h m v by.
     ∙ fixed-masked (bitAt o) zeros ons fixed ones (a .w .a) (a .w .b) (a .w .c) (a .mask .a) (a .mask .b) (a .mask .c) (a .value .a) (a .value .b) (a .value .c) h m v by
 
 pub fixed-spec : {M : Type 1} → statement M
-fixed-spec = tie.close (tie.spec both-requires both-requires-2 returns)
+fixed-spec = tie.close (tie.spec (λ c κs. search needs) (λ c κs. search needs) returns)

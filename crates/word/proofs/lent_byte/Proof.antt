@@ -6,14 +6,8 @@ use borrow.Author.Needs.{needs}
 use Rattle.word.proofs.lent_byte.Statement.{statement}
 use Rattle.word.proofs.lent_byte.Tie as tie
 
-field-requires : tie.Need-field-requires
-field-requires c κs = search needs
-
-padded-requires : tie.Need-padded-requires
-padded-requires c κs = search needs
-
 returns : tie.Need-returns
 returns c = top-of (bitAt (c .before .before .before .before .args .o .now)) (c .before .before .before .before .args .places .now) (c .before .field .result) (c .padded .result) (c .before .before .before .before .pre .2) (c .before .field .ensures) (c .padded .ensures)
 
 pub lent-byte-spec : {M : Type 1} → statement M
-lent-byte-spec = tie.close (tie.spec field-requires padded-requires returns)
+lent-byte-spec = tie.close (tie.spec (λ c κs. search needs) (λ c κs. search needs) returns)

@@ -6,30 +6,6 @@ use borrow.Author.Needs.{needs}
 use Rattle.word.proofs.words_of.Statement.{statement}
 use Rattle.word.proofs.words_of.Tie as tie
 
-four-at-requires : tie.Need-four-at-requires
-four-at-requires c κs = search needs
-
-four-at-requires-2 : tie.Need-four-at-requires-2
-four-at-requires-2 c κs = search needs
-
-eight-requires : tie.Need-eight-requires
-eight-requires c κs = search needs
-
-four-at-requires-3 : tie.Need-four-at-requires-3
-four-at-requires-3 c κs = search needs
-
-four-at-requires-4 : tie.Need-four-at-requires-4
-four-at-requires-4 c κs = search needs
-
-eight-requires-2 : tie.Need-eight-requires-2
-eight-requires-2 c κs = search needs
-
-four-at-requires-5 : tie.Need-four-at-requires-5
-four-at-requires-5 c κs = search needs
-
-cast-t7 : tie.Need-cast-t7
-cast-t7 c = search needs
-
 returns : tie.Need-returns
 returns c =
     holds-fours (c .before .before .before .before .before .before .before .before .args .o .now) (λ k. omega (arith, c .before .before .before .before .before .before .before .shared-slice-known .given k))
@@ -39,13 +15,5 @@ returns c =
 pub words-of-spec : {M : Type 1} → statement M
 words-of-spec =
     tie.close
-    (tie.spec
-    four-at-requires
-    four-at-requires-2
-    eight-requires
-    four-at-requires-3
-    four-at-requires-4
-    eight-requires-2
-    four-at-requires-5
-    cast-t7
-    returns)
+    (tie.spec (λ c κs. search needs) (λ c κs. search needs) (λ c κs. search needs) (λ c κs. search needs) (λ c κs. search needs)
+    (λ c κs. search needs) (λ c κs. search needs) (λ c. search needs) returns)

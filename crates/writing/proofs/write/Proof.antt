@@ -12,12 +12,6 @@ use borrow.Author.Needs.{needs}
 use Rattle.writing.proofs.write.Statement.{statement}
 use Rattle.writing.proofs.write.Tie as tie
 
-refusal-requires : tie.Need-refusal-requires
-refusal-requires c κs = search needs
-
-refuse-requires : tie.Need-refuse-requires
-refuse-requires c κs = search needs
-
 returns : tie.Need-returns
 returns c =
     let a = c .before .before .before .before .before .args in
@@ -30,41 +24,17 @@ cast-t15 c =
     let r = c .before .before .before .refusal in
     omega (arith, admits (a .records .now) (a .r) (a .buffer .now) (r .result) (r .ensures) (omega arith) .known)
 
-no-masks-requires : tie.Need-no-masks-requires
-no-masks-requires c κs = search needs
-
-table-requires : tie.Need-table-requires
-table-requires c κs = search needs
-
-no-plans-requires : tie.Need-no-plans-requires
-no-plans-requires c κs = search needs
-
-terms-of-requires : tie.Need-terms-of-requires
-terms-of-requires c κs = search needs
-
 mul-judge-all : tie.Need-mul-judge-all
 mul-judge-all c =
     let a = c .before .before .before .before .before .before .before .before .before .before .args in
     let r = c .before .before .before .before .before .before .before .refusal in
     omega (arith, admits (a .records .now) (a .r) (a .buffer .now) (r .result) (r .ensures) (omega arith) .short)
 
-slice-aggregate-judge-all : tie.Need-slice-aggregate-judge-all
-slice-aggregate-judge-all c = search needs
-
-slice-aggregate-judge-all-2 : tie.Need-slice-aggregate-judge-all-2
-slice-aggregate-judge-all-2 c = search needs
-
-slice-aggregate-judge-all-3 : tie.Need-slice-aggregate-judge-all-3
-slice-aggregate-judge-all-3 c = search needs
-
 judge-all-requires : tie.Need-judge-all-requires
 judge-all-requires c κs =
     let a = c .before .before .before .before .before .before .before .before .before .before .before .before .before .args in
     let r = c .before .before .before .before .before .before .before .before .before .before .refusal in
     (admits (a .records .now) (a .r) (a .buffer .now) (r .result) (r .ensures) (omega arith) .few, c .before .before .before .before .before .before .no-masks .ensures, rw (c .before .before .before .before .before .table .ensures) (c .before .before .before .before .no-plans .ensures))
-
-refuse-requires-2 : tie.Need-refuse-requires-2
-refuse-requires-2 c κs = search needs
 
 returns-2 : tie.Need-returns-2
 returns-2 c =
@@ -74,12 +44,6 @@ returns-2 c =
     let j = c .before .before .before .before .before .judge-all in
     refused-record (a .records .now) (a .r) (a .buffer .now) (r .result) (r .ensures) (c .before .before .before .before .before .before .before .before .before .before .before .before .before .before .before .if1 .left) (way .result) (way .ensures) (j .result .number) (j .result .items) (cursorOf (j .result .cursor)) (j .ensures .0) (c .refuse2 .result) (a .buffer .now) (c .before .if2 .taken) (c .refuse2 .ensures) refl
 
-slice-aggregate-put-all : tie.Need-slice-aggregate-put-all
-slice-aggregate-put-all c = search needs
-
-slice-aggregate-put-all-2 : tie.Need-slice-aggregate-put-all-2
-slice-aggregate-put-all-2 c = search needs
-
 put-all-requires : tie.Need-put-all-requires
 put-all-requires c κs =
     let a = c .before .before .before .before .before .before .before .before .before .before .before .before .before .before .before .before .before .before .before .before .before .args in
@@ -88,12 +52,6 @@ put-all-requires c κs =
     let j = c .before .before .before .before .before .before .before .judge-all in
     let w = admits (a .records .now) (a .r) (a .buffer .now) (r .result) (r .ensures) (c .before .before .before .before .before .before .before .before .before .before .before .before .before .before .before .before .before .if1 .left) in
     (j .ensures .1, all-taken (way .result) (8 * length (a .buffer .now)) (cursorBy (a .r .cursor)) (a .records .now) (j .result .number) (j .result .items) (cursorOf (j .result .cursor)) (j .ensures .0) (c .before .before .before .if2 .left), w .few, w .short)
-
-cast-t34 : tie.Need-cast-t34
-cast-t34 c = search needs
-
-same-length : tie.Need-same-length
-same-length c = search needs
 
 returns-3 : tie.Need-returns-3
 returns-3 c =
@@ -106,25 +64,6 @@ returns-3 c =
 pub write-spec : {M : Type 1} → statement M
 write-spec =
     tie.close
-    (tie.spec
-    refusal-requires
-    refuse-requires
-    returns
-    cast-t15
-    no-masks-requires
-    table-requires
-    no-plans-requires
-    terms-of-requires
-    mul-judge-all
-    slice-aggregate-judge-all
-    slice-aggregate-judge-all-2
-    slice-aggregate-judge-all-3
-    judge-all-requires
-    refuse-requires-2
-    returns-2
-    slice-aggregate-put-all
-    slice-aggregate-put-all-2
-    put-all-requires
-    cast-t34
-    same-length
-    returns-3)
+    (tie.spec (λ c κs. search needs) (λ c κs. search needs) returns cast-t15 (λ c κs. search needs) (λ c κs. search needs) (λ c κs. search needs)
+    (λ c κs. search needs) mul-judge-all (λ c. search needs) (λ c. search needs) (λ c. search needs) judge-all-requires (λ c κs. search needs)
+    returns-2 (λ c. search needs) (λ c. search needs) put-all-requires (λ c. search needs) (λ c. search needs) returns-3)

@@ -10,26 +10,11 @@ use borrow.Author.Needs.{needs}
 use Rattle.item.proofs.Cursor.over.Statement.{statement}
 use Rattle.item.proofs.Cursor.over.Tie as tie
 
-enum-known-kind : tie.Need-enum-known-kind
-enum-known-kind c = search needs
-
-body-requires : tie.Need-body-requires
-body-requires c κs = search needs
-
 add-self : tie.Need-add-self
 add-self c = omega (arith, c .body .ensures, body-high (c .before .before .kind .given .0 .0))
 
 add-self-2 : tie.Need-add-self-2
 add-self-2 c = omega (arith, c .body .ensures, body-high (c .before .before .kind .given .0 .0))
-
-after-requires : tie.Need-after-requires
-after-requires c κs = search needs
-
-enum-told : tie.Need-enum-told
-enum-told c = search needs
-
-add-self-3 : tie.Need-add-self-3
-add-self-3 c = search needs
 
 returns : tie.Need-returns
 returns c =
@@ -50,13 +35,5 @@ returns-2 c =
 pub over-spec : {M : Type 1} → statement M
 over-spec =
     tie.close
-    (tie.spec
-    enum-known-kind
-    body-requires
-    add-self
-    add-self-2
-    after-requires
-    enum-told
-    add-self-3
-    returns
+    (tie.spec (λ c. search needs) (λ c κs. search needs) add-self add-self-2 (λ c κs. search needs) (λ c. search needs) (λ c. search needs) returns
     returns-2)

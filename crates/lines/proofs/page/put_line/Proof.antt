@@ -16,12 +16,6 @@ number-at-requires c κs = omega (arith, nine (c .before .before .before .args .
 number-at-requires-2 : tie.Need-number-at-requires-2
 number-at-requires-2 c κs = omega (arith, nine (c .before .before .before .before .args .bytes .now) (c .before .before .before .before .pre .0))
 
-put-gap-requires : tie.Need-put-gap-requires
-put-gap-requires c κs = search needs
-
-same-length : tie.Need-same-length
-same-length c = search needs
-
 returns : tie.Need-returns
 returns c =
     let the-number-at = c .before .before .before .before .before .before .number-at in
@@ -32,12 +26,6 @@ returns c =
 
 shared-slice-read-put-frame : tie.Need-shared-slice-read-put-frame
 shared-slice-read-put-frame c = omega (arith, twelve (c .before .before .before .before .before .before .before .before .args .bytes .now) (c .before .before .before .before .before .before .before .before .pre .0) (c .before .before .if1 .left))
-
-put-frame-requires : tie.Need-put-frame-requires
-put-frame-requires c κs = search needs
-
-same-length-2 : tie.Need-same-length-2
-same-length-2 c = search needs
 
 returns-2 : tie.Need-returns-2
 returns-2 c =
@@ -50,14 +38,5 @@ returns-2 c =
 pub put-line-spec : {M : Type 1} → statement M
 put-line-spec =
     tie.close
-    (tie.spec
-    shared-slice-read-kind
-    number-at-requires
-    number-at-requires-2
-    put-gap-requires
-    same-length
-    returns
-    shared-slice-read-put-frame
-    put-frame-requires
-    same-length-2
-    returns-2)
+    (tie.spec shared-slice-read-kind number-at-requires number-at-requires-2 (λ c κs. search needs) (λ c. search needs) returns
+    shared-slice-read-put-frame (λ c κs. search needs) (λ c. search needs) returns-2)

@@ -19,9 +19,6 @@ abbrev μ-loop : tie.MeasureT-loop
 loop-holds : tie.Need-loop-holds Inv-loop μ-loop
 loop-holds c = (left-all (c .before .before .args .page .now) (c .before .before .args .out .now) (c .before .before .args .at) (omega (arith, c .before .before .pre .room)), refl)
 
-shared-slice-read-size : tie.Need-shared-slice-read-size Inv-loop μ-loop
-shared-slice-read-size c = search needs
-
 size-requires : tie.Need-size-requires Inv-loop μ-loop
 size-requires c κs =
     let l = c .before .before .loop in
@@ -35,9 +32,6 @@ add-behind c =
     let a = c .before .before .before .before .before .before .args in
     let n = next (a .page .now) (a .out .now) (a .at) (l .out) (l .from) (l .end) (l .inv .0) (omega arith) (length (a .out .now)) (c .before .before .before .before .before .before .pre) in
     omega (arith, c .size .ensures, n .inside)
-
-sub-put-line : tie.Need-sub-put-line Inv-loop μ-loop
-sub-put-line c = search needs
 
 part-put-line-start : tie.Need-part-put-line-start Inv-loop μ-loop
 part-put-line-start c =
@@ -77,9 +71,6 @@ loop-again c =
     let e : l .from + the-size .result - l .from ≡ the-size .result = omega arith in
     (rw (the-size .ensures) (left-next (a .page .now) (a .out .now) (a .at) (l .out) (l .from) (l .end) (l .inv .0) (omega arith) (p .last .0) (p .result) (rw (e, the-size .ensures) at (p .ensures))), p .kept .0 ∙ l .inv .1)
 
-same-length : tie.Need-same-length Inv-loop μ-loop
-same-length c = search needs
-
 returns : tie.Need-returns Inv-loop μ-loop
 returns c =
     let l = c .before .loop in
@@ -89,18 +80,5 @@ returns c =
 pub put-lines-spec : {M : Type 1} → statement M
 put-lines-spec =
     tie.close
-    (tie.spec
-    Inv-loop
-    μ-loop
-    loop-holds
-    shared-slice-read-size
-    size-requires
-    add-behind
-    sub-put-line
-    part-put-line-start
-    part-put-line-end
-    put-line-requires
-    loop-less
-    loop-again
-    same-length
-    returns)
+    (tie.spec Inv-loop μ-loop loop-holds (λ c. search needs) size-requires add-behind (λ c. search needs) part-put-line-start part-put-line-end
+    put-line-requires loop-less loop-again (λ c. search needs) returns)
