@@ -13,7 +13,7 @@ use lib.ListN.{length, getD, take}
 use lib.Seq.{getD-take}
 use Rattle.bits.specs.Bit.{bitAt, toN, number, twenty, octetOf}
 use Rattle.bits.proofs.BitLaws.{toN-lt, toN-one, length-twenty}
-use Rattle.word.specs.Below.{Below}
+use Rattle.fields.specs.Below.{Below}
 use Rattle.scatter.specs.Scatter.{putPlaces}
 use Rattle.scatter.proofs.PlaceLaws.{length-places, Own, places-kept, places-put}
 use Rattle.put.proofs.PutLaws.{put-at, length-put, own-kept}

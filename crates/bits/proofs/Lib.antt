@@ -2,4 +2,3 @@
 -- Assumes nothing.
 pub mod CountLaws
 pub mod BitLaws
-pub mod SyncLaws

@@ -1,3 +1,2 @@
 pub mod Bit
-pub mod Sync
 pub mod Put

@@ -16,7 +16,7 @@ use Rattle.reading.specs.Reading.{frame}
 use Rattle.bits.specs.Bit.{bitAt, toN, count, octetOf}
 use Rattle.bits.proofs.BitLaws.{toN-one, byte-bit, octet-first}
 use Rattle.bits.proofs.CountLaws.{getD-map-count}
-use Rattle.word.specs.Below.{Below}
+use Rattle.fields.specs.Below.{Below}
 use Rattle.put.proofs.PutLaws.{body-bit, body-length}
 use Rattle.channel.specs.declared.Direction.{Direction}
 use Rattle.channel.specs.declared.Terms.{Terms}

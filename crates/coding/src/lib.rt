@@ -93,7 +93,7 @@ fn speech_xc(w: Words, d: Direction) -> bool
     ensures { λ r. ⌜ ((o : List ℕ) → Holds (bitAt o) (w .a) (w .b) (w .c) → r ≡ xcCoded (bitAt o) (speechXc d)) ⌝ }
 {
     let xc = xc_field(w);
-    if word::odd_ones(xc) {
+    if fields::odd_ones(xc) {
         speech_number(d, xc / 2)
     } else {
         false
@@ -116,7 +116,7 @@ fn om_xc(w: Words) -> bool
     ensures { λ r. ⌜ ((o : List ℕ) → Holds (bitAt o) (w .a) (w .b) (w .c) → r ≡ xcCoded (bitAt o) (31 ∷ [])) ⌝ }
 {
     let xc = xc_field(w);
-    if word::odd_ones(xc) {
+    if fields::odd_ones(xc) {
         xc / 2 == 31
     } else {
         false
@@ -128,7 +128,7 @@ fn hr_kind(w: Words, d: Direction) -> Found
     ensures { λ r. ⌜ ((o : List ℕ) → Holds (bitAt o) (w .a) (w .b) (w .c) → Coded d (bitAt o) Hr r) ⌝ }
 {
     let c = word::field_of(w.a, 9, 5);
-    if !word::odd_ones(c) {
+    if !fields::odd_ones(c) {
         return Found::Nothing;
     }
     if !c4_coded(d, c / 2 % 2 == 1) {

@@ -9,7 +9,7 @@ ghost use lib.Dec.{eqb};
 ghost use lib.ListN.{length};
 ghost use Rattle.bits.specs.Bit.{bitAt, toN};
 ghost use Rattle.channel.specs.Crc.{right};
-ghost use Rattle.word.specs.Below.{Below};
+ghost use Rattle.fields.specs.Below.{Below};
 ghost use Rattle.word.specs.Words.{Holds};
 ghost use Rattle.crc.specs.Taps.{ParityOf, oddUnder, MasksAt};
 use word::Words;

@@ -8,7 +8,7 @@ ghost use Rattle.bits.specs.Bit.{bitAt, count};
 ghost use Rattle.channel.specs.Coding.{bitsAt};
 ghost use Rattle.channel.specs.Control.{fromTop};
 ghost use Rattle.channel.specs.Record.{dBytes};
-ghost use Rattle.word.specs.Below.{Below};
+ghost use Rattle.fields.specs.Below.{Below};
 ghost use Rattle.plans.specs.Plan.{SmallAt, quickAt, PlanOf, Made};
 
 // A byte by an entry of the plan.
@@ -48,7 +48,7 @@ fn byte_at(o: &[u8], part: &[u8], j: usize) -> u8
 {
     let start = scatter::least(part.len(), 8 * j);
     let end = scatter::byte_end(part, j);
-    word::lent_byte(o, &part[start..end])
+    fields::lent_byte(o, &part[start..end])
 }
 
 // The bits at some places in nineteen bytes, bit by bit.

@@ -15,7 +15,7 @@ use Rattle.channel.specs.Kinds.{dCount}
 use Rattle.channel.specs.Places.{elem, dPlaces}
 use Rattle.channel.proofs.FrameLaws.{body-high}
 use Rattle.channel.proofs.DLaws.{Rule, d-rule}
-use Rattle.word.specs.Below.{Below}
+use Rattle.fields.specs.Below.{Below}
 use Rattle.dplaces.specs.DPlaces.{allPlaces, dFrom}
 
 -- a kind's part of the table is the list of its D places

@@ -7,7 +7,7 @@ ghost use lib.ListN.{length, getD};
 ghost use Rattle.bits.specs.Bit.{bitAt};
 ghost use Rattle.channel.specs.Kinds.{dCount};
 ghost use Rattle.channel.specs.Places.{dPlaces};
-ghost use Rattle.word.specs.Below.{Below};
+ghost use Rattle.fields.specs.Below.{Below};
 ghost use Rattle.scatter.specs.Scatter.{putPlaces};
 ghost use Rattle.entries.specs.Entry.{back};
 ghost use Rattle.plans.specs.Plan.{PlanOf, Made};

@@ -12,7 +12,7 @@ use lib.Pow.{pow-add, shl-shr, shr-shr, split, pow-mono}
 use Rattle.bits.specs.Bit.{bitAt, number, count}
 use Rattle.channel.specs.Coding.{bitsAt}
 use Rattle.channel.specs.Control.{fromTop}
-use Rattle.word.proofs.WordLaws.{top-of}
+use Rattle.fields.proofs.PackedLaws.{top-of}
 use Rattle.entries.specs.Entry.{Rising, Whole, FirstRun, FirstBy, FirstEnds, backOf, firstCount, secondStart, secondMask, EntryBy}
 use Rattle.entries.proofs.BackLaws.{entry-back}
 use Rattle.entries.proofs.RunLaws.{run-number, runs-two, pair-number}

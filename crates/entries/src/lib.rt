@@ -3,7 +3,7 @@ ghost use mathlib.Core.Path.{_≡_};
 ghost use mathlib.Core.List.{List};
 ghost use Prim.Native.Nat.{ℕ, _+_, _^_, _≤_, _<_};
 ghost use lib.ListN.{length};
-ghost use Rattle.word.specs.Below.{Below};
+ghost use Rattle.fields.specs.Below.{Below};
 ghost use Rattle.entries.specs.Entry.{Rising, Whole, FirstRun, FirstBy, FirstEnds, backOf, EntryBy};
 
 // How the bits at some places make a byte: octet m % 256 by the factor f, and the next by the factor h under the mask m. Where they do not make it so, f is 1.

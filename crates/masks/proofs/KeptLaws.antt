@@ -12,8 +12,8 @@ use lib.ListN.{length, getD, set, replicate, length-set}
 use lib.Seq.{getD-set-same, getD-set-other}
 use Rattle.channel.specs.declared.Kind.the-variants.{Speech, Amr670, Amr740}
 use Rattle.channel.specs.Checks.{checks, checks475, checks515, checks590}
-use Rattle.word.specs.Below.{Below}
-use Rattle.word.proofs.BelowLaws.{allLt, listed-below}
+use Rattle.fields.specs.Below.{Below}
+use Rattle.fields.proofs.BelowLaws.{allLt, listed-below}
 use Rattle.crc.specs.Taps.{MasksAt}
 use Rattle.masks.specs.Kept.{covered, MadeAt, Kept, More}
 

@@ -9,7 +9,7 @@ ghost use lib.ListN.{length, getD};
 ghost use Rattle.bits.specs.Bit.{bitAt, toN};
 ghost use Rattle.channel.specs.Crc.{right};
 ghost use Rattle.channel.specs.Verdict.{wrongs};
-ghost use Rattle.word.specs.Below.{Below};
+ghost use Rattle.fields.specs.Below.{Below};
 ghost use Rattle.word.specs.Words.{Holds};
 ghost use Rattle.masks.specs.Kept.{covered, MadeAt, Kept, More};
 use word::Words;

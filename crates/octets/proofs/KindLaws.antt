@@ -9,7 +9,7 @@ use native.Mathlib.Omega.{arith}
 use borrow.Author.Tests.{ne-eqb}
 use lib.Dec.{eqb, leb, lit≤}
 use lib.ListN.{length, take}
-use Rattle.word.specs.Below.{Below}
+use Rattle.fields.specs.Below.{Below}
 use Rattle.channel.specs.declared.Pattern.{Pattern}
 use Rattle.channel.specs.declared.Pattern.the-variants.{Hr, Low, P670, P740}
 use Rattle.channel.specs.declared.Kind.{Kind}
@@ -18,7 +18,7 @@ use Rattle.channel.specs.Kinds.{kindNo, patternOf}
 use Rattle.channel.specs.Places.{xcPlaces, crcPlaces}
 use Rattle.channel.specs.Control.{controlPlaces}
 use Rattle.octets.specs.Built.{extendedPlaces, withC5, withXc6, withParities}
-use Rattle.word.proofs.BelowLaws.{listed-below}
+use Rattle.fields.proofs.BelowLaws.{listed-below}
 use Rattle.record.proofs.KindLaws.{InByte, of-each, control-few}
 
 -- the pattern: kinds 1 to 4; kinds 5, 6; kind 7; kind 8

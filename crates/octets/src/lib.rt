@@ -3,7 +3,7 @@ ghost use mathlib.Core.Path.{_≡_};
 ghost use Prim.Native.Nat.{_+_, _≤_, _<_};
 ghost use lib.ListN.{length, getD, drop};
 ghost use Rattle.bits.specs.Bit.{bitAt};
-ghost use Rattle.word.specs.Below.{Below};
+ghost use Rattle.fields.specs.Below.{Below};
 ghost use Rattle.scatter.specs.Scatter.{putPlaces};
 ghost use Rattle.channel.specs.Kinds.{patternOf};
 ghost use Rattle.channel.specs.Control.{controlPlaces};
@@ -63,7 +63,7 @@ fn with_parity(o: [u8; 20], places: &[u8], p: usize) -> [u8; 20]
     requires { ⌜ Below 160 (now places) × (length (now places) ≤ 8) × (p < 160) ⌝ }
     ensures { λ r. ⌜ r ≡ withParity (now (places .entry)) p o ⌝ }
 {
-    let odd = word::odd_ones(word::packed(o, places));
+    let odd = fields::odd_ones(fields::packed(o, places));
     let mut made = o;
     put::put_bit(&mut made, p, !odd);
     made

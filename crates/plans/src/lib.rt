@@ -4,7 +4,7 @@ use entries::Entry;
 ghost use mathlib.Core.Path.{_≡_};
 ghost use Prim.Native.Nat.{_*_, _≤_, _<_};
 ghost use lib.ListN.{length, take, drop};
-ghost use Rattle.word.specs.Below.{Below};
+ghost use Rattle.fields.specs.Below.{Below};
 ghost use Rattle.entries.specs.Entry.{Rising, EntryBy};
 ghost use Rattle.dplaces.specs.DPlaces.{allPlaces};
 ghost use Rattle.plans.specs.Plan.{oddOne, planFrom, Plans, MadeMore, PlannedFrom};

@@ -12,7 +12,7 @@ use lib.Dec.{eqb}
 use lib.ListN.{getD}
 use Rattle.reading.specs.Reading.{Starts}
 use Rattle.bits.specs.Bit.{count}
-use Rattle.bits.specs.Sync.{Synced, SyncFrom}
+use Rattle.sync.specs.Sync.{Synced, SyncFrom}
 use Rattle.channel.specs.declared.Pattern.{Pattern}
 use Rattle.channel.specs.declared.Kind.{Kind}
 use Rattle.channel.specs.declared.Kind.the-variants.{Speech, Data, Om, Configuration, NoSpeech, Lower, Amr670, Amr740}

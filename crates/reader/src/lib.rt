@@ -84,7 +84,7 @@ fn gap_end(s: &[u8], n: usize, t: Terms, from: usize, masks: &mut [u64]) -> usiz
     let sync = SYNC;
     let mut q = from;
     'places: while q + 158 <= n {
-        q = bits::sync_from(s, q, n - 158);
+        q = sync::sync_from(s, q, n - 158);
         if n < q + 158 {
             return n;
         }

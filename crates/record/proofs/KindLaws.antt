@@ -6,8 +6,8 @@ use mathlib.Core.List.{List, _++_}
 use Prim.Native.Nat.{ℕ, _≤_}
 use lib.Dec.{eqb, lit≤}
 use lib.ListN.{length, take}
-use Rattle.word.specs.Below.{Below}
-use Rattle.word.proofs.BelowLaws.{listed-below}
+use Rattle.fields.specs.Below.{Below}
+use Rattle.fields.proofs.BelowLaws.{listed-below}
 use Rattle.channel.specs.declared.Kind.{Kind}
 use Rattle.channel.specs.declared.Kind.the-variants.{Speech, Data, Om, Configuration, NoSpeech, Lower, Amr670, Amr740}
 use Rattle.channel.specs.Kinds.{kindNo}

@@ -37,14 +37,14 @@ fn control_byte(o: [u8; 20], k: Kind) -> u8
     ensures { λ r. ⌜ r ≡ control (bitAt o) k ⌝ }
 {
     match k {
-        Kind::Speech => word::top_byte(o, &places::SPEECH_CONTROL),
-        Kind::Data => word::top_byte(o, &places::HR_CONTROL),
-        Kind::Om => word::top_byte(o, &places::HR_CONTROL),
-        Kind::Configuration => word::top_byte(o, &places::HR_CONTROL),
-        Kind::NoSpeech => word::top_byte(o, &places::LOW_C),
-        Kind::Lower => word::top_byte(o, &places::LOW_C),
-        Kind::Amr670 => word::top_byte(o, &places::AMR_C),
-        Kind::Amr740 => word::top_byte(o, &places::AMR_C),
+        Kind::Speech => fields::top_byte(o, &places::SPEECH_CONTROL),
+        Kind::Data => fields::top_byte(o, &places::HR_CONTROL),
+        Kind::Om => fields::top_byte(o, &places::HR_CONTROL),
+        Kind::Configuration => fields::top_byte(o, &places::HR_CONTROL),
+        Kind::NoSpeech => fields::top_byte(o, &places::LOW_C),
+        Kind::Lower => fields::top_byte(o, &places::LOW_C),
+        Kind::Amr670 => fields::top_byte(o, &places::AMR_C),
+        Kind::Amr740 => fields::top_byte(o, &places::AMR_C),
     }
 }
 
@@ -53,7 +53,7 @@ fn extended_byte(o: [u8; 20], k: Kind) -> u8
     ensures { λ r. ⌜ r ≡ extended (bitAt o) k ⌝ }
 {
     match kinds::number(k) {
-        1 => word::top_byte(o, &places::SPEECH_EXTENDED),
+        1 => fields::top_byte(o, &places::SPEECH_EXTENDED),
         3 => 248,
         _ => 0,
     }

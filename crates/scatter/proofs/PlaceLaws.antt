@@ -13,7 +13,7 @@ use lib.ListN.{length, getD, take, drop, length-take, length-drop, drop-of-lengt
 use lib.Seq.{take-all, getD-take, getD-drop}
 use Rattle.bits.specs.Bit.{bitAt, count}
 use Rattle.bits.specs.Put.{putBit, putBits}
-use Rattle.word.specs.Below.{Below}
+use Rattle.fields.specs.Below.{Below}
 use Rattle.put.proofs.PutLaws.{put-at, length-put, own-kept}
 use Rattle.scatter.specs.Scatter.{putPlaces}
 

@@ -1,4 +1,2 @@
-pub mod WordLaws
 pub mod MaskLaws
 pub mod FieldLaws
-pub mod BelowLaws

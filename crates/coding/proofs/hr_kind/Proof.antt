@@ -9,7 +9,7 @@ use Rattle.channel.specs.declared.Pattern.the-variants.{Hr}
 use Rattle.channel.specs.Places.{cPlaces}
 use Rattle.channel.specs.Coding.{bitsAt, hrCoded, xcCoded, speechXc}
 use Rattle.channel.proofs.BoolLaws.{and-both}
-use Rattle.word.proofs.WordLaws.{odd-packed}
+use Rattle.fields.proofs.PackedLaws.{odd-packed}
 use Rattle.coding.proofs.CodingLaws.{and-not, and-left, hr-odd-not, hr-none, hr-c4, hr-this, hr-other, hr-nothing}
 use borrow.Author.Needs.{needs}
 use Rattle.coding.proofs.hr_kind.Statement.{statement}

@@ -6,7 +6,7 @@ use Prim.Native.Nat.{_/_}
 use Rattle.bits.specs.Bit.{bitAt}
 use Rattle.channel.specs.Places.{xcPlaces}
 use Rattle.channel.specs.Coding.{bitsAt}
-use Rattle.word.proofs.WordLaws.{odd-packed}
+use Rattle.fields.proofs.PackedLaws.{odd-packed}
 use Rattle.coding.proofs.CodingLaws.{one-elem, xc-odd, xc-even}
 use borrow.Author.Needs.{needs}
 use Rattle.coding.proofs.om_xc.Statement.{statement}

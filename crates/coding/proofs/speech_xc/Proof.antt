@@ -5,7 +5,7 @@ use native.Mathlib.Omega.{arith}
 use Rattle.bits.specs.Bit.{bitAt}
 use Rattle.channel.specs.Places.{xcPlaces}
 use Rattle.channel.specs.Coding.{bitsAt, speechXc}
-use Rattle.word.proofs.WordLaws.{odd-packed}
+use Rattle.fields.proofs.PackedLaws.{odd-packed}
 use Rattle.coding.proofs.CodingLaws.{xc-odd, xc-even}
 use borrow.Author.Needs.{needs}
 use Rattle.coding.proofs.speech_xc.Statement.{statement}

@@ -4,7 +4,7 @@ use native.Mathlib.Omega.{arith}
 use lib.ListN.{take}
 use Rattle.channel.specs.declared.Pattern.the-variants.{Hr}
 use Rattle.channel.specs.Places.{cPlaces}
-use Rattle.word.proofs.BelowLaws.{listed-below}
+use Rattle.fields.proofs.BelowLaws.{listed-below}
 use borrow.Author.Needs.{needs}
 use Rattle.octets.proofs.with_c5.Statement.{statement}
 use Rattle.octets.proofs.with_c5.Tie as tie

@@ -5,7 +5,7 @@ use mathlib.Core.Bool.{Bool, not}
 use Rattle.bits.specs.Bit.{bitAt}
 use Rattle.channel.specs.Coding.{bitsAt}
 use Rattle.bits.specs.Put.{putBit}
-use Rattle.word.proofs.WordLaws.{odd-packed}
+use Rattle.fields.proofs.PackedLaws.{odd-packed}
 use Rattle.octets.specs.Built.{withParity}
 use borrow.Author.Needs.{needs}
 use Rattle.octets.proofs.with_parity.Statement.{statement}

@@ -3,7 +3,7 @@
 use native.Mathlib.Omega.{arith}
 use lib.ListN.{take}
 use Rattle.channel.specs.Places.{xcPlaces}
-use Rattle.word.proofs.BelowLaws.{listed-below}
+use Rattle.fields.proofs.BelowLaws.{listed-below}
 use borrow.Author.Needs.{needs}
 use Rattle.octets.proofs.with_xc6.Statement.{statement}
 use Rattle.octets.proofs.with_xc6.Tie as tie

@@ -5,7 +5,7 @@ use mathlib.Core.List.{_++_}
 use lib.ListN.{take}
 use Rattle.bits.specs.Bit.{bitAt}
 use Rattle.channel.specs.Places.{xcPlaces, crcPlaces}
-use Rattle.word.proofs.BelowLaws.{listed-below}
+use Rattle.fields.proofs.BelowLaws.{listed-below}
 use Rattle.record.proofs.KindLaws.{extended-no}
 use borrow.Author.Needs.{needs}
 use borrow.Author.Tests.{ne-eqb}

@@ -1,12 +1,12 @@
--- `bits::sync_in` meets its contract.
+-- `sync::sync_in` meets its contract.
 -- Assumes nothing.
 use mathlib.Core.Path.{_≡_}
 use Prim.Native.Nat.{ℕ, _*_, _-_, _/_, _%_, _^_, _<_}
 use native.Mathlib.Omega.{arith}
 use lib.Count.{leadingZeros, leading-le}
-use Rattle.bits.proofs.SyncLaws.{odd-none, byte-leading, place-told, told-place, shifted-out, out-shifted}
-use Rattle.bits.proofs.sync_in.Statement.{statement}
-use Rattle.bits.proofs.sync_in.Tie as tie
+use Rattle.sync.proofs.SyncLaws.{odd-none, byte-leading, place-told, told-place, shifted-out, out-shifted}
+use Rattle.sync.proofs.sync_in.Statement.{statement}
+use Rattle.sync.proofs.sync_in.Tie as tie
 
 returns : tie.Need-returns
 returns c = (omega arith, λ k l h. absurd (odd-none (c .before .args .a) k l (c .if1 .taken) (h .0)), λ l. absurd (omega arith))

@@ -5,7 +5,7 @@ use mathlib.Core.List.{List, [], _∷_}
 use Prim.Native.Nat.{ℕ, zero, suc}
 use native.Mathlib.Omega.{arith}
 use lib.Dec.{T, ltb, ltb→lt}
-use Rattle.word.specs.Below.{Below}
+use Rattle.fields.specs.Below.{Below}
 
 -- a list whose entries a test finds below m
 abbrev pub allLt : ℕ → List ℕ → Bool

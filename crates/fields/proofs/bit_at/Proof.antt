@@ -1,9 +1,9 @@
--- `word::bit_at` meets its contract: a place below 160 lies in the twenty octets.
+-- `fields::bit_at` meets its contract: a place below 160 lies in the twenty octets.
 -- Assumes nothing.
 use native.Mathlib.Omega.{arith}
 use borrow.Author.Needs.{needs}
-use Rattle.word.proofs.bit_at.Statement.{statement}
-use Rattle.word.proofs.bit_at.Tie as tie
+use Rattle.fields.proofs.bit_at.Statement.{statement}
+use Rattle.fields.proofs.bit_at.Tie as tie
 
 cast-p : tie.Need-cast-p
 cast-p c = omega (arith, c .before .before .before .pre .1 (c .before .before .before .args .j) (c .before .before .before .pre .2))

@@ -1,4 +1,4 @@
--- `word::field` meets its contract: the number of all the bits is that of those that are left, behind the field so far.
+-- `fields::field` meets its contract: the number of all the bits is that of those that are left, behind the field so far.
 -- Assumes nothing.
 use mathlib.Core.Path.{_≡_, refl, sym, _∙_}
 use Prim.Native.Nat.{_-_, _^_, _≤_, _<_}
@@ -8,10 +8,10 @@ use lib.ListN.{length, drop}
 use lib.Pow.{pow-mono}
 use Rattle.bits.specs.Bit.{bitAt, numberFrom, number}
 use Rattle.channel.specs.Coding.{bitsAt}
-use Rattle.word.proofs.WordLaws.{number-goes, number-end, field-grows}
+use Rattle.fields.proofs.PackedLaws.{number-goes, number-end, field-grows}
 use borrow.Author.Needs.{needs}
-use Rattle.word.proofs.field.Statement.{statement}
-use Rattle.word.proofs.field.Tie as tie
+use Rattle.fields.proofs.field.Statement.{statement}
+use Rattle.fields.proofs.field.Tie as tie
 
 abbrev Inv-loop : tie.InvT-loop
 Inv-loop o places field₀ j₀ j-end field j = (j-end ≡ length places) × (j ≤ length places) × (field < 2 ^ j) × (number (bitsAt (bitAt o) places) ≡ numberFrom field (bitsAt (bitAt o) (drop j places)))

@@ -1,4 +1,4 @@
--- `bits::sync_from` meets its contract: no place of the bytes passed has eight zeros and a one, the one that is answered has.
+-- `sync::sync_from` meets its contract: no place of the bytes passed has eight zeros and a one, the one that is answered has.
 -- Assumes nothing.
 use mathlib.Core.Logic.{inl, inr}
 use Prim.Native.Nat.{ℕ, _+_, _*_, _-_, _<_, _≤_}
@@ -6,9 +6,9 @@ use native.Mathlib.Omega.{arith}
 use lib.ListN.{getD}
 use borrow.Author.Needs.{needs}
 use borrow.Author.Tests.{eq-eqb}
-use Rattle.bits.proofs.SyncLaws.{bytes-synced, odd-none, nil-none, Before, byte-passed, byte-stops}
-use Rattle.bits.proofs.sync_from.Statement.{statement}
-use Rattle.bits.proofs.sync_from.Tie as tie
+use Rattle.sync.proofs.SyncLaws.{bytes-synced, odd-none, nil-none, Before, byte-passed, byte-stops}
+use Rattle.sync.proofs.sync_from.Statement.{statement}
+use Rattle.sync.proofs.sync_from.Tie as tie
 
 abbrev Inv-loop : tie.InvT-loop
 Inv-loop s q last i₀ i = (8 * i ≤ last + 8) × Before s q (8 * i)

@@ -1,9 +1,9 @@
--- `word::with_bit` meets its contract.
+-- `fields::with_bit` meets its contract.
 -- Assumes nothing.
 use native.Mathlib.Omega.{arith}
 use borrow.Author.Needs.{needs}
-use Rattle.word.proofs.with_bit.Statement.{statement}
-use Rattle.word.proofs.with_bit.Tie as tie
+use Rattle.fields.proofs.with_bit.Statement.{statement}
+use Rattle.fields.proofs.with_bit.Tie as tie
 
 returns : tie.Need-returns
 returns c = rw (c .if1 .taken)

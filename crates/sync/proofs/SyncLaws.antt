@@ -13,9 +13,9 @@ use native.Mathlib.Decide.{decLt}
 use lib.Count.{leadingZeros, leading-unique, leading-length}
 use lib.ListN.{getD}
 use lib.Pow.{pow-pos, pow-lt, pow-mono, split, shr-shr, shl-shr, field, mod-pow-add, mod-mod-pow}
 use Rattle.bits.specs.Bit.{bitAt, toN}
-use Rattle.bits.specs.Sync.{Synced, SyncedIn, SyncFrom}
+use Rattle.sync.specs.Sync.{Synced, SyncedIn, SyncFrom}
 use Rattle.bits.proofs.BitLaws.{toN-one, byte-bit}
 
 -- m low bits that are zero
 zeros-low : (m a : ℕ) → ((j : ℕ) → j < m → a / 2 ^ j % 2 ≡ 0) → a % 2 ^ m ≡ 0
