@@ -19,7 +19,7 @@ use Rattle.channel.specs.Frames.{Frame}
 use Rattle.channel.specs.Record.{dBytes, numberAt, dLength, recordOf}
 use Rattle.channel.specs.Sound.{SoundAs, Unsound}
 use Rattle.record.proofs.KindLaws.{of-each}
-use Rattle.record.proofs.RecordLaws.{four-bytes, record-length}
+use Rattle.numbers.proofs.SizeLaws.{four-bytes, record-length}
 use Rattle.parse.specs.declared.RecordKind.the-variants as of
 use Rattle.parse.specs.declared.Record.{Record}
 use Rattle.parse.specs.Parsed.{kindBy, recordAs, recordFrom, RecordBy, frameBy}

@@ -23,7 +23,7 @@ use Rattle.channel.specs.Frames.{Capture, Frame, rules}
 use Rattle.apart.specs.Fit.{Fit, AllFit}
 use Rattle.channel.specs.Sound.{FitFrame}
 use Rattle.apart.proofs.BuiltLaws.{framed, body-framed, built}
-use Rattle.record.proofs.RecordLaws.{four-bytes, record-length, size-pos, d-length-le, length-dBytes}
+use Rattle.numbers.proofs.SizeLaws.{four-bytes, record-length, size-pos, d-length-le, length-dBytes}
 
 -- of two lists that begin with parts of one length the parts and the rests are equal
 pub parts : {A : Type 0} (a b r s : List A) → length a ≡ length b → a ++ r ≡ b ++ s → (a ≡ b) × (r ≡ s)

@@ -36,7 +36,8 @@ use Rattle.channel.specs.declared.Found.the-variants.{Is, Nothing}
 use Rattle.channel.specs.Record.{dBytes, wide, numberAt, dLength, recordOf}
 use Rattle.dplaces.proofs.DPlaceLaws.{d-length}
 use Rattle.dbits.proofs.DBitLaws.{fromTop-bit, bytes-bit}
-use Rattle.record.proofs.RecordLaws.{d-length-le, bytes-cut}
+use Rattle.numbers.proofs.SizeLaws.{d-length-le}
+use Rattle.record.proofs.RecordLaws.{bytes-cut}
 use Rattle.octets.specs.Built.{extendedPlaces}
 use Rattle.channel.specs.Sound.{SoundAs, Unsound}
 use Rattle.parse.specs.Parsed.{kindBy}

@@ -25,7 +25,7 @@ use Rattle.plans.specs.Plan.{Made}
 use Rattle.item.specs.declared.ItemKind.the-variants as item-kind
 use Rattle.item.specs.declared.Item.{Item}
 use Rattle.item.specs.Item.{itemOf}
-use Rattle.record.proofs.RecordLaws.{record-length}
+use Rattle.numbers.proofs.SizeLaws.{record-length}
 use Rattle.parse.specs.declared.RecordKind.{RecordKind}
 use Rattle.parse.specs.declared.RecordKind.the-variants as of
 use Rattle.parse.specs.declared.Record.{Record}

@@ -13,7 +13,7 @@ use Rattle.channel.specs.declared.Kind.the-variants.{Speech, Data, Om, Configur
 use Rattle.channel.specs.Kinds.{kindNo}
 use Rattle.channel.specs.Frames.{Frame}
 use Rattle.channel.specs.Record.{numberAt, recordOf, records, sizeOf, dLength}
-use Rattle.record.proofs.RecordLaws.{four-bytes, record-length, size-pos}
+use Rattle.numbers.proofs.SizeLaws.{four-bytes, record-length, size-pos}
 use Rattle.text.specs.Text.{Put}
 use Rattle.text.proofs.TextLaws.{put-none, put-put, put-one}
 use Rattle.lines.specs.Line.{spaced, lineOf, linesOf, sizes, Fits, AllFit, Recorded, Lined, Records, AllLined}

@@ -22,8 +22,8 @@ fn put_line(out: &mut [u8], at: usize, bytes: &[u8]) -> usize
     ensures { λ r. ⌜ Lined (now (bytes .entry)) (now (out .entry)) at (now (out .exit)) r ⌝ }
 {
     let kind = bytes[0];
-    let start = record::number_at(bytes, 1);
-    let span = record::number_at(bytes, 5);
+    let start = numbers::number_at(bytes, 1);
+    let span = numbers::number_at(bytes, 5);
     if kind == 0 {
         return line::put_gap(out, at, start, span);
     }

@@ -16,7 +16,7 @@ use Rattle.channel.specs.Verdict.{Context}
 use Rattle.channel.specs.Frames.{Capture, Frame, rules}
 use Rattle.channel.proofs.ChannelLaws.{exists}
 use Rattle.channel.specs.Record.{recordOf, records}
-use Rattle.record.proofs.RecordLaws.{record-length, size-le}
+use Rattle.numbers.proofs.SizeLaws.{record-length, size-le}
 use Rattle.call.specs.declared.CursorNumbers.{CursorNumbers}
 use Rattle.call.specs.declared.Answer.{Answer}
 use Rattle.call.specs.Call.{cursorBy, next, answeredBy, refused}

@@ -97,8 +97,8 @@ pub fn record_by(part: &[u8], table: &[u8], plan: &mut [u32]) -> Record
             }
             plans::ready(plan, table, k);
             let octets = octets::octets_by(part, k, table, plan);
-            let start = record::number_at(part, 1) as usize;
-            let tail = record::number_at(part, 5) as usize;
+            let start = numbers::number_at(part, 1) as usize;
+            let tail = numbers::number_at(part, 5) as usize;
             Record {
                 kind: RecordKind::Frame(k),
                 octets: octets,

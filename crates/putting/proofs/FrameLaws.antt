@@ -21,7 +21,7 @@ use Rattle.channel.specs.Verdict.{Context}
 use Rattle.channel.specs.Frames.{Frame, behind, rules}
 use Rattle.channel.specs.Record.{recordOf, sizeOf}
 use Rattle.channel.specs.Sound.{SoundAs, Unsound}
-use Rattle.record.proofs.RecordLaws.{record-length, size-pos}
+use Rattle.numbers.proofs.SizeLaws.{record-length, size-pos}
 use Rattle.parse.specs.declared.Record.{Record}
 use Rattle.parse.specs.Parsed.{frameBy}
 use Rattle.taking.specs.Taken.{items, Taken}

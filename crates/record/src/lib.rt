@@ -5,11 +5,11 @@ use item::Item;
 use item::ItemKind;
 ghost use mathlib.Core.Path.{_≡_};
 ghost use mathlib.Core.List.{_++_, _∷_};
-ghost use Prim.Native.Nat.{_+_, _*_, _≤_};
+ghost use Prim.Native.Nat.{_+_, _≤_};
 ghost use lib.ListN.{length, take, drop};
 ghost use Rattle.bits.specs.Bit.{bitAt};
 ghost use Rattle.channel.specs.Control.{control, extended};
-ghost use Rattle.channel.specs.Record.{dBytes, wide, numberAt, dLength, sizeOf, recordOf};
+ghost use Rattle.channel.specs.Record.{dBytes, wide, dLength, sizeOf, recordOf};
 ghost use Rattle.channel.specs.declared.Kind.{Kind};
 ghost use Rattle.plans.specs.Plan.{Made, Plans};
 ghost use Rattle.item.specs.Item.{itemOf};
@@ -85,21 +85,6 @@ fn put_d(out: &mut [u8], o: [u8; 20], k: Kind, table: &[u8], plan: &[u32])
     for j in 0..n {
         out[12 + j] = bytes[j];
     }
-}
-
-// The number of four bytes, the high byte first.
-fn joined(a: u8, b: u8, c: u8, d: u8) -> u64
-    ensures { λ r. ⌜ (r ≡ a * 16777216 + b * 65536 + c * 256 + d) × (r ≤ 4294967295) ⌝ }
-{
-    a as u64 * 16777216 + b as u64 * 65536 + c as u64 * 256 + d as u64
-}
-
-// The number in four bytes from a place on, the high byte first.
-pub fn number_at(bytes: &[u8], at: usize) -> u64
-    requires { ⌜ at + 4 ≤ length (now bytes) ⌝ }
-    ensures { λ r. ⌜ (r ≡ numberAt (now (bytes .entry)) at) × (r ≤ 4294967295) ⌝ }
-{
-    joined(bytes[at], bytes[at + 1], bytes[at + 2], bytes[at + 3])
 }
 
 // Makes the plan that the record of an item wants.

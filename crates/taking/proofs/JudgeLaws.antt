@@ -13,7 +13,7 @@ use Rattle.channel.specs.Verdict.{Context}
 use Rattle.channel.specs.Frames.{Frame, rules}
 use Rattle.channel.specs.Record.{recordOf, sizeOf}
 use Rattle.channel.specs.Sound.{SoundAs, Unsound, soundNumber}
-use Rattle.record.proofs.RecordLaws.{record-length, size-pos}
+use Rattle.numbers.proofs.SizeLaws.{record-length, size-pos}
 use Rattle.taking.specs.Taken.{items, Taken, Decides}
 use Rattle.taking.specs.Judged.{JudgedAs, AllTaken}
 use Rattle.taking.proofs.TakeLaws.{decides-all, taken-more}

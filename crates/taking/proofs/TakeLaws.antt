@@ -14,7 +14,7 @@ use Rattle.channel.specs.declared.Terms.{Terms}
 use Rattle.channel.specs.Verdict.{Context, verdictOf, allowed}
 use Rattle.channel.specs.Frames.{Frame, behind, rules}
 use Rattle.channel.specs.Record.{recordOf, records}
-use Rattle.record.proofs.RecordLaws.{record-length, size-pos}
+use Rattle.numbers.proofs.SizeLaws.{record-length, size-pos}
 use Rattle.apart.proofs.OneLaws.{frame-one}
 use Rattle.channel.specs.Sound.{SoundAs, soundNumber}
 use Rattle.taking.specs.Taken.{items, Taken, Decides}

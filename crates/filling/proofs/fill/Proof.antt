@@ -15,7 +15,8 @@ use Rattle.plans.specs.Plan.{Plans}
 use Rattle.masks.specs.Kept.{Kept}
 use Rattle.item.specs.Item.{itemOf, cursorOf}
 use Rattle.channel.specs.Record.{sizeOf, recordOf}
-use Rattle.record.proofs.RecordLaws.{record-length, size-of, size-le}
+use Rattle.numbers.proofs.SizeLaws.{record-length, size-le}
+use Rattle.record.proofs.RecordLaws.{size-of}
 use Rattle.filling.proofs.ItemLaws.{item-small}
 use borrow.Author.Needs.{needs}
 use Rattle.filling.proofs.fill.Statement.{statement}

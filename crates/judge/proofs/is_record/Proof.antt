@@ -7,7 +7,8 @@ use native.Mathlib.Omega.{arith}
 use lib.ListN.{length, getD, List·getD-append}
 use Rattle.item.specs.Item.{itemOf}
 use Rattle.channel.specs.Record.{sizeOf, recordOf}
-use Rattle.record.proofs.RecordLaws.{size-of, size-le, record-length}
+use Rattle.numbers.proofs.SizeLaws.{size-le, record-length}
+use Rattle.record.proofs.RecordLaws.{size-of}
 use Rattle.judge.specs.Judged.{SameTo}
 use Rattle.judge.proofs.SoundLaws.{same-front}
 use borrow.Author.Needs.{needs}

@@ -11,7 +11,7 @@ use Rattle.channel.specs.declared.Terms.{Terms}
 use Rattle.channel.specs.Verdict.{Context}
 use Rattle.channel.specs.Frames.{Frame}
 use Rattle.plans.specs.Plan.{Plans}
-use Rattle.record.proofs.RecordLaws.{size-pos}
+use Rattle.numbers.proofs.SizeLaws.{size-pos}
 use Rattle.parse.specs.Parsed.{RecordBy, frameBy}
 use Rattle.apart.proofs.FrontLaws.{record-none, record-is}
 use Rattle.taking.specs.Taken.{Taken}

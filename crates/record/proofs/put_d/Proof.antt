@@ -6,7 +6,8 @@ use Prim.Native.Nat.{_-_, _≤_}
 use lib.ListN.{length, length-set}
 use lib.Seq.{paste, paste-zero}
 use Rattle.channel.specs.Record.{dLength}
-use Rattle.record.proofs.RecordLaws.{d-length-le, copy-turn}
+use Rattle.numbers.proofs.SizeLaws.{d-length-le}
+use Rattle.record.proofs.RecordLaws.{copy-turn}
 use borrow.Author.Needs.{needs}
 use Rattle.record.proofs.put_d.Statement.{statement}
 use Rattle.record.proofs.put_d.Tie as tie

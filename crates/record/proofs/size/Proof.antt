@@ -1,7 +1,7 @@
 -- `record::size` meets its contract.
 -- Assumes nothing.
 use native.Mathlib.Omega.{arith}
-use Rattle.record.proofs.RecordLaws.{d-length-le}
+use Rattle.numbers.proofs.SizeLaws.{d-length-le}
 use borrow.Author.Needs.{needs}
 use Rattle.record.proofs.size.Statement.{statement}
 use Rattle.record.proofs.size.Tie as tie

@@ -12,7 +12,7 @@ use Rattle.plans.specs.Plan.{Plans}
 use Rattle.masks.specs.Kept.{Kept}
 use Rattle.item.specs.declared.Item.{Item}
 use Rattle.item.specs.Item.{itemOf, cursorOf}
-use Rattle.record.proofs.RecordLaws.{size-pos, size-le}
+use Rattle.numbers.proofs.SizeLaws.{size-pos, size-le}
 use Rattle.parse.specs.Parsed.{frameBy}
 use Rattle.judge.specs.Judged.{Judged}
 use Rattle.judge.proofs.SoundLaws.{judged-frame, judged-none}
