@@ -72,7 +72,7 @@ fn make_lone(m: &mut [u64], i: usize)
     }
 }
 
-// Works out the masks of list i. In parts, since what a check costs grows with the square of a function's arms.
+// Works out the masks of list i. In parts, since one function of twelve arms took longer to check.
 fn make(m: &mut [u64], i: usize)
     requires { ⌜ (i < 12) × Kept (now m) ⌝ }
     ensures { λ _. ⌜ More i (now (m .entry)) (now (m .exit)) ⌝ }
