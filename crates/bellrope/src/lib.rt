@@ -3,7 +3,9 @@ ghost use Rattle.paging.specs.Paging.{PageCall};
 ghost use Rattle.writing.specs.Writing.{WriteCall};
 use call::Answer;
 use call::CursorNumbers;
+use call::PageRequest;
 use call::TermNumbers;
+use call::WriteRequest;
 
 // A page of records from a cursor: the longest leading part of the reading that keeps to the count and fits the buffer; items, bytes, and the cursor
 // moved on.
@@ -27,7 +29,7 @@ pub extern "C" fn bellrope_page(
 {
     paging::page(
         capture,
-        paging::Request {
+        PageRequest {
             n: n,
             terms: TermNumbers {
                 direction: direction,
@@ -61,7 +63,7 @@ pub extern "C" fn bellrope_write(
 {
     writing::write(
         records,
-        writing::Request {
+        WriteRequest {
             terms: TermNumbers {
                 direction: direction,
             },

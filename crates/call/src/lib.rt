@@ -15,6 +15,20 @@ pub struct CursorNumbers {
     pub context: u64,
 }
 
+// What is asked of a page: how many bits the capture has, what is agreed of it, the cursor, and most items.
+pub struct PageRequest {
+    pub n: u64,
+    pub terms: TermNumbers,
+    pub cursor: CursorNumbers,
+    pub most: u64,
+}
+
+// What is asked of writing: what is agreed of the capture that the bits are for, and the cursor.
+pub struct WriteRequest {
+    pub terms: TermNumbers,
+    pub cursor: CursorNumbers,
+}
+
 // What a call answers: its number (0, or that of the refusal), the index of the record refused, the items and bytes, and the cursor moved on.
 #[repr(C)]
 pub struct Answer {

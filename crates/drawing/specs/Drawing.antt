@@ -1,31 +1,20 @@
 -- The drawings of the eight kinds as one text, laid out as TS 48.061 draws them in 5.2.1 to 5.2.3: a line for each octet, a column for each bit.
 -- Assumes nothing.
 use mathlib.Core.List.{List, [], _∷_, _++_}
-use Prim.Native.Nat.{ℕ, zero, suc, _+_, _*_}
+use Prim.Native.Nat.{ℕ, zero, suc}
 use Prim.Native.Char.{code}
 use Prim.Native.String.{String, [] as none, _∷_ as _then_}
-use lib.ListN.{drop}
 use Rattle.channel.specs.declared.Direction.the-variants.{Uplink, Downlink}
 use Rattle.channel.specs.declared.Kind.{Kind}
 use Rattle.channel.specs.declared.Kind.the-variants.{Speech, Data, Om, Configuration, NoSpeech, Lower, Amr670, Amr740}
 use Rattle.channel.specs.Kinds.{bodyOf, leastTail}
 use Rattle.text.specs.Text.{decimalOf}
-use Rattle.cells.specs.Cells.{cellOf}
-use Rattle.drawing.specs.Names.{letteredOf, nameOf}
+use Rattle.names.specs.Names.{octetOf}
 
 -- the bytes of a quoted text
 abbrev pub ascii : String → List ℕ
 ascii none = []
 ascii (c then s) = code c ∷ ascii s
-
--- what the first bits of an octet of a kind are called, as many as the last argument says
-abbrev pub namesOf : Kind → ℕ → ℕ → List ℕ
-namesOf k octet zero = []
-namesOf k octet (suc i) = namesOf k octet i ++ nameOf (cellOf k (8 * octet + i))
-
--- the line of an octet, octets being counted from 0 and numbered from 1: its number in two columns, its eight bits, the line end
-abbrev pub octetOf : Kind → ℕ → List ℕ
-octetOf k octet = drop 3 (letteredOf 32 32 (octet + 1)) ++ namesOf k octet 8 ++ (10 ∷ [])
 
 -- the lines of the first octets of a kind
 abbrev pub octetsOf : Kind → ℕ → List ℕ

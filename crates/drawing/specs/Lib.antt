@@ -1,4 +1,3 @@
 -- The definitions that the contracts of this crate cite.
 -- Assumes nothing.
-pub mod Names
 pub mod Drawing

@@ -1,66 +1,10 @@
 // The drawings of the eight kinds of frame as one text, put into a lent buffer.
-ghost use mathlib.Core.Path.{_≡_};
-ghost use Prim.Native.Nat.{_+_, _≤_, _<_};
+ghost use Prim.Native.Nat.{_+_, _≤_};
 ghost use lib.ListN.{length};
 ghost use Rattle.text.specs.Text.{Put};
-ghost use Rattle.drawing.specs.Names.{letteredOf, nameOf};
-ghost use Rattle.drawing.specs.Drawing.{octetOf, headingOf, drawingOf, allDrawings};
-use cells::Cell;
+ghost use Rattle.drawing.specs.Drawing.{headingOf, drawingOf, allDrawings};
 use channel::Direction;
 use channel::Kind;
-use text::digit;
-
-// Two letters and a number below 1,000, flush right in five columns.
-fn lettered(first: u8, second: u8, n: usize) -> [u8; 5]
-    ensures { λ r. ⌜ r ≡ letteredOf first second n ⌝ }
-{
-    let number = n as u64;
-    if n < 10 {
-        return [b' ', b' ', first, second, digit(number)];
-    }
-    if n < 100 {
-        return [b' ', first, second, digit(number / 10), digit(number)];
-    }
-    [
-        first,
-        second,
-        digit(number / 100),
-        digit(number / 10),
-        digit(number),
-    ]
-}
-
-// What a bit is called, flush right in five columns.
-fn name(c: Cell) -> [u8; 5]
-    ensures { λ r. ⌜ r ≡ nameOf c ⌝ }
-{
-    match c {
-        Cell::Zero => [b' ', b' ', b' ', b' ', b'0'],
-        Cell::One => [b' ', b' ', b' ', b' ', b'1'],
-        Cell::C(n) => lettered(b' ', b'C', n),
-        Cell::Xc(n) => lettered(b'X', b'C', n),
-        Cell::Crc(n) => [b' ', b'C', b'R', b'C', digit(n as u64)],
-        Cell::D(n) => lettered(b' ', b'D', n),
-        Cell::Prime(n) => lettered(b'D', b'\'', n),
-        Cell::T(n) => lettered(b' ', b'T', n),
-        Cell::Tail => [b' ', b' ', b' ', b' ', b'T'],
-        Cell::Nothing => [b' ', b' ', b' ', b' ', b'-'],
-    }
-}
-
-// Puts the line of an octet of a kind at a place, and answers where it ends: the octet's number in two columns, and what its eight bits are called.
-fn put_octet(out: &mut [u8], at: usize, k: Kind, octet: u8) -> usize
-    requires { ⌜ (octet < 20) × (at + 43 ≤ length (now out)) ⌝ }
-    ensures { λ r. ⌜ Put (now (out .entry)) at (octetOf k octet) (now (out .exit)) r ⌝ }
-{
-    let number = lettered(b' ', b' ', octet as usize + 1);
-    let mut end = text::put(out, at, &number[3..5]);
-    for i in 0..8 {
-        let called = name(cells::cell_at(k, 8 * octet + i));
-        end = text::put(out, end, &called);
-    }
-    text::put(out, end, b"\n")
-}
 
 // Puts the heading of a kind there: its title, its body and least tails, and the line of the bits' numbers.
 fn put_heading(out: &mut [u8], at: usize, k: Kind, title: &[u8]) -> usize
@@ -90,7 +34,7 @@ fn draw(out: &mut [u8], at: usize, k: Kind, title: &[u8]) -> usize
 {
     let mut end = put_heading(out, at, k, title);
     for octet in 0..20 {
-        end = put_octet(out, end, k, octet);
+        end = names::put_octet(out, end, k, octet);
     }
     end
 }

@@ -25,7 +25,7 @@ pub fn number(r: Record, k: Kind, c: Cursor, bits: usize, masks: &mut [u64]) -> 
     if verdict != due {
         return 6;
     }
-    if !kinds::allowed_in(k, c.context, due) {
+    if !allowed::allowed_in(k, c.context, due) {
         return 6;
     }
     if bits < start + kinds::body(k) + tail {

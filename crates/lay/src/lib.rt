@@ -1,9 +1,8 @@
-// A frame laid into a lent buffer: its body, and the ones of its tail.
+// The body of a frame laid into a lent buffer.
 ghost use mathlib.Core.Path.{_≡_};
-ghost use mathlib.Core.Bool.{true};
 ghost use mathlib.Core.List.{map};
 ghost use Prim.Native.Nat.{_+_, _*_, _≤_};
-ghost use lib.ListN.{length, replicate};
+ghost use lib.ListN.{length};
 ghost use Rattle.bits.specs.Bit.{bitAt, count};
 ghost use Rattle.bits.specs.Put.{putBits};
 
@@ -25,22 +24,4 @@ pub fn body(s: &mut [u8], p: usize, o: [u8; 20], k: usize)
     }
     let last = if n < 20 { o[n] } else { 0 };
     put::put_top(s, 8 * (i + n), (r + k) % 8, put::join(o[n - 1], last, r));
-}
-
-// A tail of t ones, from bit p on: bytes are written whole, but for the first and the last.
-pub fn tail(s: &mut [u8], p: usize, t: usize)
-    requires { ⌜ (p + t ≤ 8 * length (now s)) × (length (now s) ≤ 65536) ⌝ }
-    ensures { λ _. ⌜ now (s .exit) ≡ putBits (now (s .entry)) p (replicate t true) ⌝ }
-{
-    let r = p % 8;
-    if r + t < 8 {
-        put::put_top(s, p, t, 255);
-        return;
-    }
-    put::put_top(s, p, 8 - r, 255);
-    let end = (p + t) / 8;
-    for i in p / 8 + 1..end {
-        s[i] = 255;
-    }
-    put::put_top(s, 8 * end, (p + t) % 8, 255);
 }

@@ -16,7 +16,8 @@ use Rattle.channel.specs.Record.{numberAt, recordOf, records, sizeOf, dLength}
 use Rattle.numbers.proofs.SizeLaws.{four-bytes, record-length, size-pos}
 use Rattle.text.specs.Text.{Put}
 use Rattle.text.proofs.TextLaws.{put-none, put-put, put-one}
-use Rattle.lines.specs.Line.{spaced, lineOf, linesOf, sizes, Fits, AllFit, Recorded, Lined, Records, AllLined}
+use Rattle.line.specs.Line.{spaced}
+use Rattle.lines.specs.Lines.{lineOf, linesOf, sizes, Fits, AllFit, Recorded, Lined, Records, AllLined}
 
 -- a kind's number and the size of its record
 kind-some : (k : Kind) → 0 < kindNo k

@@ -1,3 +1,3 @@
 -- The definitions that the contracts of this crate cite.
 -- Assumes nothing.
-pub mod Line
+pub mod Lines

@@ -16,7 +16,8 @@ use Rattle.call.specs.declared.Answer.{Answer}
 use Rattle.call.specs.Call.{cursorBy, next}
 use Rattle.text.specs.Text.{Put}
 use Rattle.text.proofs.TextLaws.{put-none, put-put, put-one}
-use Rattle.lines.specs.Line.{refusalLine, linesOf, Records, AllLined}
+use Rattle.line.specs.Line.{refusalLine}
+use Rattle.lines.specs.Lines.{linesOf, Records, AllLined}
 use Rattle.listing.specs.Listing.{numberOf, wholeOf, TextBy, Text, Listing, Listed}
 use Rattle.listing.proofs.RoomLaws.{lines-append, lines-short, all-fit}
 use Rattle.listing.proofs.PagingLaws.{first, pageNumber, number-due, PageTaken}

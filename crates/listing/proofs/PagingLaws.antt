@@ -20,9 +20,10 @@ use Rattle.numbers.proofs.SizeLaws.{record-length, size-le}
 use Rattle.call.specs.declared.CursorNumbers.{CursorNumbers}
 use Rattle.call.specs.declared.Answer.{Answer}
 use Rattle.call.specs.Call.{cursorBy, next, answeredBy, refused}
-use Rattle.paging.specs.declared.Request.{Request}
-use Rattle.paging.specs.Paging.{refusalOf, PagedBy, PageCall}
-use Rattle.paging.proofs.CallLaws.{Admitted, admitted}
+use Rattle.call.specs.declared.PageRequest.{PageRequest}
+use Rattle.refusal.specs.Refusal.{pageRefusal}
+use Rattle.paging.specs.Paging.{PagedBy, PageCall}
+use Rattle.refusal.proofs.RefusalLaws.{Admitted, admitted}
 use Rattle.paging.proofs.HarvestLaws.{got, got-bytes, not-refused, stretch, progress, answered-good}
 use Rattle.listing.specs.Listing.{numberOf, wholeOf}
 
@@ -31,12 +32,12 @@ abbrev pub first : CursorNumbers
 first = record { position = 0; context = 0 }
 
 -- what the listing asks of a page
-abbrev pub asked : List ℕ → ℕ → CursorNumbers → Request
+abbrev pub asked : List ℕ → ℕ → CursorNumbers → PageRequest
 asked capture direction cursor = record { n = 8 * length capture; terms = record { direction = direction }; cursor = cursor; most = 4096 }
 
 -- the number that 1 to 3 give
 abbrev pub pageNumber : List ℕ → ℕ → CursorNumbers → ℕ
-pageNumber capture direction cursor = refusalOf (length capture) (asked capture direction cursor)
+pageNumber capture direction cursor = pageRefusal (length capture) (asked capture direction cursor)
 
 -- at the beginning it is that of the listing
 pub number-due : (capture : List ℕ) (direction : ℕ) → pageNumber capture direction first ≡ numberOf capture direction
@@ -97,7 +98,7 @@ pub record PageTaken (capture : List ℕ) (direction : ℕ) (cursor : CursorNumb
 pub page-taken : (capture : List ℕ) (direction : ℕ) (cursor : CursorNumbers) (buffer : List ℕ) (a : Answer) (after : List ℕ) → PageCall capture (asked capture direction cursor) buffer a after
     → length after ≡ length buffer → a .number ≡ 0 → PageTaken capture direction cursor a after
 page-taken capture direction cursor buffer a after call e z =
-    let r : Request = asked capture direction cursor in
+    let r : PageRequest = asked capture direction cursor in
     let g = got capture r buffer a after call z .filled in
     let good = answered-good capture r buffer a after call z 4096 (lit< tt) in
     let h : a .bytes ≤ length after = omega (arith, g .sized, g .longest .fits) in

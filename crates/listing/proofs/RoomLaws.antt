@@ -12,7 +12,7 @@ use Rattle.channel.specs.Kinds.{kindNo}
 use Rattle.channel.specs.Verdict.{Context}
 use Rattle.channel.specs.Frames.{Capture, Frame, Due, rules}
 use Rattle.channel.proofs.FrameLaws.{body-low}
-use Rattle.lines.specs.Line.{lineOf, linesOf, Fits, AllFit}
+use Rattle.lines.specs.Lines.{lineOf, linesOf, Fits, AllFit}
 use Rattle.text.proofs.TextLaws.{digits-most}
 
 -- the lines of two lists of items

@@ -10,7 +10,8 @@ use Rattle.reading.specs.Reading.{Item, Reading}
 use Rattle.channel.specs.Frames.{Capture, captureOf, Frame, rules, beginning}
 use Rattle.call.specs.Call.{termsBy}
 use Rattle.text.specs.Text.{Put}
-use Rattle.lines.specs.Line.{refusalLine, linesOf}
+use Rattle.line.specs.Line.{refusalLine}
+use Rattle.lines.specs.Lines.{linesOf}
 
 -- the number of the refusal, or 0: 1 for a direction above 1, else 2 for a capture over 65,536 bytes
 abbrev pub numberOf : List ℕ → ℕ → ℕ

@@ -4,8 +4,8 @@ ghost use Prim.Native.Nat.{_≤_, _<_};
 ghost use lib.ListN.{length, getD};
 ghost use Rattle.listing.specs.Listing.{Text, Listing, Listed};
 use call::CursorNumbers;
+use call::PageRequest;
 use call::TermNumbers;
-use paging::Request;
 
 // Puts a line for each item of a capture, asking for each page with the cursor that the last answered, or the line of the refusal alone. Answers where the
 // text ends. The buffer has as many bytes as a capture may have bits, and 256 more: that is enough for every reading.
@@ -23,7 +23,7 @@ fn list(capture: &[u8], direction: u8, out: &mut [u8]) -> usize
     loop {
         let answer = paging::page(
             capture,
-            Request {
+            PageRequest {
                 n: n,
                 terms: TermNumbers {
                     direction: direction as u64,
@@ -34,7 +34,7 @@ fn list(capture: &[u8], direction: u8, out: &mut [u8]) -> usize
             &mut buffer,
         );
         if answer.number != 0 {
-            return lines::put_refusal(out, answer.number);
+            return line::put_refusal(out, answer.number);
         }
         end = lines::put_lines(out, end, &buffer[..answer.bytes as usize]);
         if n <= answer.position {
@@ -59,7 +59,7 @@ pub fn listing(input: &[u8], out: &mut [u8]) -> usize
     ensures { λ r. ⌜ Listed (Listing (now (input .entry))) (now (out .entry)) (now (out .exit)) r ⌝ }
 {
     if input.len() == 0 {
-        return lines::put_refusal(out, 1);
+        return line::put_refusal(out, 1);
     }
     list(&input[1..], direction_of(input), out)
 }

@@ -18,10 +18,11 @@ use Rattle.call.specs.declared.TermNumbers.{TermNumbers}
 use Rattle.call.specs.declared.CursorNumbers.{CursorNumbers}
 use Rattle.call.specs.declared.Answer.{Answer}
 use Rattle.call.specs.Call.{termsBy, cursorBy, next}
-use Rattle.paging.specs.declared.Request.{Request}
-use Rattle.paging.specs.Paging.{refusalOf, PagedBy, PageCall}
+use Rattle.call.specs.declared.PageRequest.{PageRequest}
+use Rattle.refusal.specs.Refusal.{pageRefusal}
+use Rattle.paging.specs.Paging.{PagedBy, PageCall}
 use Rattle.paging.specs.Harvest.{Asked, Harvest, deliveries, harvested, counted}
-use Rattle.paging.proofs.CallLaws.{Admitted, admitted, admit}
+use Rattle.refusal.proofs.RefusalLaws.{Admitted, admitted, admit}
 use Rattle.paging.proofs.PagedLaws.{paged-one, Got, not-by-number, got-paged}
 
 -- what a request is of
@@ -29,19 +30,19 @@ abbrev pub captureBy : List ℕ → ℕ → TermNumbers → Capture
 captureBy capture n terms = captureOf capture n (termsBy terms)
 
 -- no second answer and no second buffer fit a request
-pub answer-one : (capture : List ℕ) (r : Request) (buffer : List ℕ) (a b : Answer) (after later : List ℕ) → PageCall capture r buffer a after → PageCall capture r buffer b later
+pub answer-one : (capture : List ℕ) (r : PageRequest) (buffer : List ℕ) (a b : Answer) (after later : List ℕ) → PageCall capture r buffer a after → PageCall capture r buffer b later
     → (a ≡ b) × (after ≡ later)
 answer-one capture r buffer =
     let w = captureBy capture (r .n) (r .terms) in
-    paged-one rules recordOf w (r .cursor) (r .most) buffer (sound w) (refusalOf (length capture) r)
+    paged-one rules recordOf w (r .cursor) (r .most) buffer (sound w) (pageRefusal (length capture) r)
 
-module _ (capture : List ℕ) (r : Request) (buffer : List ℕ) (a : Answer) (after : List ℕ) (call : PageCall capture r buffer a after) (taken-up : a .number ≡ 0) where
+module _ (capture : List ℕ) (r : PageRequest) (buffer : List ℕ) (a : Answer) (after : List ℕ) (call : PageCall capture r buffer a after) (taken-up : a .number ≡ 0) where
   abbrev w : Capture
   w = captureBy capture (r .n) (r .terms)
 
   -- 1 to 3 did not refuse it
-  pub not-refused : refusalOf (length capture) r ≡ 0
-  not-refused = not-by-number rules recordOf w (r .cursor) (r .most) buffer a after taken-up (refusalOf (length capture) r) call
+  pub not-refused : pageRefusal (length capture) r ≡ 0
+  not-refused = not-by-number rules recordOf w (r .cursor) (r .most) buffer a after taken-up (pageRefusal (length capture) r) call
 
   pub request : Admitted (length capture) r
   request = admitted (length capture) r not-refused
@@ -66,7 +67,7 @@ module _ (capture : List ℕ) (r : Request) (buffer : List ℕ) (a : Answer) (af
       filled-progress rules recordOf w (cursorBy (r .cursor)) (r .most) buffer after (a .items) (a .bytes) (cursorBy (next a)) (got .filled) (sound w) (got .left)
 
   -- a cursor that a page answers is never refused for the same capture
-  pub answered-good : (more : ℕ) → 0 < more → refusalOf (length capture) (record { n = r .n; terms = r .terms; cursor = next a; most = more }) ≡ 0
+  pub answered-good : (more : ℕ) → 0 < more → pageRefusal (length capture) (record { n = r .n; terms = r .terms; cursor = next a; most = more }) ≡ 0
   answered-good more h =
       let known : overAll rules (cursorBy (r .cursor)) (got .filled .page) .context ≤ 5 =
       known-after rules (λ (x : ℕ). x ≤ 5) (omega arith) (λ x f. after-le x (f .body) (f .kind)) (cursorBy (r .cursor)) (got .filled .page) (request .known) in

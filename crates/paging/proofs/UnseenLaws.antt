@@ -15,8 +15,9 @@ use Rattle.channel.specs.Record.{recordOf, records}
 use Rattle.call.specs.declared.CursorNumbers.{CursorNumbers}
 use Rattle.call.specs.declared.Answer.{Answer}
 use Rattle.call.specs.Call.{termsBy, cursorBy, answeredBy, refused}
-use Rattle.paging.specs.declared.Request.{Request}
-use Rattle.paging.specs.Paging.{refusalOf, PagedBy, PageCall}
+use Rattle.call.specs.declared.PageRequest.{PageRequest}
+use Rattle.refusal.specs.Refusal.{pageRefusal}
+use Rattle.paging.specs.Paging.{PagedBy, PageCall}
 
 module _ (n : ℕ) (s t : List ℕ) (same : Agree n (bitAt s) (bitAt t)) (terms : Terms) (c : CursorNumbers) (most : ℕ) where
   page-same : (room : ℕ) (xs : List (Item Frame)) → Page rules recordOf (captureOf s n terms) (cursorBy c) most room xs → Page rules recordOf (captureOf t n terms) (cursorBy c) most room xs
@@ -43,9 +44,9 @@ module _ (n : ℕ) (s t : List ℕ) (same : Agree n (bitAt s) (bitAt t)) (terms 
   paged-same (suc number) buffer a after r = r
 
 -- the same request on the other capture
-pub call-same : (s t : List ℕ) (r : Request) (buffer : List ℕ) (a : Answer) (after : List ℕ) → length s ≡ length t → Agree (r .n) (bitAt s) (bitAt t) → PageCall s r buffer a after
+pub call-same : (s t : List ℕ) (r : PageRequest) (buffer : List ℕ) (a : Answer) (after : List ℕ) → length s ≡ length t → Agree (r .n) (bitAt s) (bitAt t) → PageCall s r buffer a after
     → PageCall t r buffer a after
 call-same s t r buffer a after l same call =
     let w : Capture = captureOf t (r .n) (termsBy (r .terms)) in
-    subst (λ (bytes : ℕ). PagedBy rules recordOf (refusalOf bytes r) w (r .cursor) (r .most) buffer a after) l
-    (paged-same (r .n) s t same (termsBy (r .terms)) (r .cursor) (r .most) (refusalOf (length s) r) buffer a after call)
+    subst (λ (bytes : ℕ). PagedBy rules recordOf (pageRefusal bytes r) w (r .cursor) (r .most) buffer a after) l
+    (paged-same (r .n) s t same (termsBy (r .terms)) (r .cursor) (r .most) (pageRefusal (length s) r) buffer a after call)

@@ -7,8 +7,8 @@ use Rattle.reading.specs.Reading.{Cursor}
 use Rattle.channel.specs.Verdict.{Context}
 use Rattle.call.specs.declared.Answer.{Answer}
 use Rattle.call.specs.Call.{answeredBy, refused}
-use Rattle.paging.specs.declared.Request.{Request}
+use Rattle.call.specs.declared.PageRequest.{PageRequest}
 
 -- 4 where an item is left and none was taken
-abbrev pub answerOf : Request → ℕ → ℕ → Cursor Context → Answer
+abbrev pub answerOf : PageRequest → ℕ → ℕ → Cursor Context → Answer
 answerOf r items bytes to = cond (eqb items 0 && ltb (r .cursor .position) (r .n)) (refused 4 (r .cursor)) (answeredBy items bytes to)

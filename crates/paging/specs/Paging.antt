@@ -3,8 +3,7 @@
 use mathlib.Core.Path.{_≡_}
 use mathlib.Core.Bool.{cond}
 use mathlib.Core.List.{List, _++_}
-use Prim.Native.Nat.{ℕ, zero, suc, _*_}
-use lib.Dec.{eqb, ltb}
+use Prim.Native.Nat.{ℕ, zero, suc}
 use lib.ListN.{length, drop}
 use Rattle.reading.specs.Reading.{Rules, Item, overAll}
 use Rattle.reading.specs.Paging.{recordsBy, Page, firstLeft}
@@ -14,18 +13,8 @@ use Rattle.channel.specs.Record.{recordOf}
 use Rattle.call.specs.declared.CursorNumbers.{CursorNumbers}
 use Rattle.call.specs.declared.Answer.{Answer}
 use Rattle.call.specs.Call.{termsBy, cursorBy, answeredBy, refused}
-use Rattle.paging.specs.declared.Request.{Request}
-
--- the numbers 1 to 3, in their order: direction above 1 or most items 0; over 65,536 bytes of capture or n too large; cursor beyond n or context
--- above 5; 0 where none of them is given
-abbrev pub refusalOf : ℕ → Request → ℕ
-refusalOf bytes r =
-    cond (ltb 1 (r .terms .direction)) 1
-    (cond (eqb (r .most) 0) 1
-    (cond (ltb 65536 bytes) 2
-    (cond (ltb (8 * bytes) (r .n)) 2
-    (cond (ltb (r .n) (r .cursor .position)) 3
-    (cond (ltb 5 (r .cursor .context)) 3 0)))))
+use Rattle.call.specs.declared.PageRequest.{PageRequest}
+use Rattle.refusal.specs.Refusal.{pageRefusal}
 
 -- over any rules whose contexts are numbers, and any records
 module _ {W F : Type 0} (R : Rules W Context F) (recordOf : Item F → List ℕ) where
@@ -43,6 +32,6 @@ module _ {W F : Type 0} (R : Rules W Context F) (recordOf : Item F → List ℕ)
   PagedBy (suc number) w c most buffer answer after = (answer ≡ refused (suc number) c) × (after ≡ buffer)
 
 -- every request: the capture, what is asked of it, the buffer; the answer, and the buffer after it
-abbrev pub PageCall : List ℕ → Request → List ℕ → Answer → List ℕ → Type 0
+abbrev pub PageCall : List ℕ → PageRequest → List ℕ → Answer → List ℕ → Type 0
 PageCall capture r buffer answer after =
-    PagedBy rules recordOf (refusalOf (length capture) r) (captureOf capture (r .n) (termsBy (r .terms))) (r .cursor) (r .most) buffer answer after
+    PagedBy rules recordOf (pageRefusal (length capture) r) (captureOf capture (r .n) (termsBy (r .terms))) (r .cursor) (r .most) buffer answer after

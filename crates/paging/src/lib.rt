@@ -3,54 +3,15 @@ ghost use mathlib.Core.Path.{_≡_};
 ghost use mathlib.Core.Bool.{_&&_};
 ghost use lib.Dec.{eqb, ltb};
 ghost use Rattle.item.specs.Item.{cursorOf};
-ghost use Rattle.paging.specs.Paging.{refusalOf, PageCall};
+ghost use Rattle.paging.specs.Paging.{PageCall};
 ghost use Rattle.paging.specs.Answered.{answerOf};
 use call::Answer;
-use call::CursorNumbers;
-use call::TermNumbers;
+use call::PageRequest;
 use filling::Counted;
 use item::Cursor;
 
-// What is asked of a page: how many bits the capture has, what is agreed of it, the cursor, and most items.
-pub struct Request {
-    pub n: u64,
-    pub terms: TermNumbers,
-    pub cursor: CursorNumbers,
-    pub most: u64,
-}
-
-// The numbers 1 to 3 in their order, or 0.
-fn refusal(bytes: usize, r: Request) -> u64
-    ensures { λ number. ⌜ number ≡ refusalOf bytes r ⌝ }
-{
-    let terms = r.terms;
-    let cursor = r.cursor;
-    let n = r.n;
-    let position = cursor.position;
-    if 1 < terms.direction {
-        return 1;
-    }
-    if r.most == 0 {
-        return 1;
-    }
-    if 65536 < bytes {
-        return 2;
-    }
-    let bits = 8 * bytes as u64;
-    if bits < n {
-        return 2;
-    }
-    if n < position {
-        return 3;
-    }
-    if 5 < cursor.context {
-        return 3;
-    }
-    0
-}
-
 // Number 4: an item is left and none was taken, for then the first does not fit.
-fn first_left(r: Request, items: u64) -> bool
+fn first_left(r: PageRequest, items: u64) -> bool
     ensures { λ b. ⌜ b ≡ eqb items 0 && ltb (r .cursor .position) (r .n) ⌝ }
 {
     let cursor = r.cursor;
@@ -62,7 +23,7 @@ fn first_left(r: Request, items: u64) -> bool
 }
 
 // What is answered of a page.
-fn answer(r: Request, page: Counted) -> Answer
+fn answer(r: PageRequest, page: Counted) -> Answer
     ensures { λ a. ⌜ a ≡ answerOf r (page .items) (page .bytes) (cursorOf (page .cursor)) ⌝ }
 {
     if first_left(r, page.items) {
@@ -81,10 +42,10 @@ fn answer(r: Request, page: Counted) -> Answer
 
 // A page of records from a cursor: the longest leading part of the reading that keeps to the count and fits the buffer; items, bytes, and the cursor
 // moved on.
-pub fn page(capture: &[u8], r: Request, buffer: &mut [u8]) -> Answer
+pub fn page(capture: &[u8], r: PageRequest, buffer: &mut [u8]) -> Answer
     ensures { λ a. ⌜ PageCall (now (capture .entry)) r (now (buffer .entry)) a (now (buffer .exit)) ⌝ }
 {
-    let number = refusal(capture.len(), r);
+    let number = refusal::page(capture.len(), r);
     if number != 0 {
         return call::refuse(number, 0, r.cursor);
     }

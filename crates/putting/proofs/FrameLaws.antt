@@ -24,9 +24,9 @@ use Rattle.channel.specs.Sound.{SoundAs, Unsound}
 use Rattle.numbers.proofs.SizeLaws.{record-length, size-pos}
 use Rattle.parse.specs.declared.Record.{Record}
 use Rattle.parse.specs.Parsed.{frameBy}
-use Rattle.taking.specs.Taken.{items, Taken}
-use Rattle.taking.proofs.TakeLaws.{passes}
-use Rattle.taking.proofs.JudgeLaws.{rest-is, record-inside, over-more}
+use Rattle.taken.specs.Taken.{items, Taken}
+use Rattle.taken.proofs.TakeLaws.{passes}
+use Rattle.taken.proofs.JudgeLaws.{rest-is, record-inside, over-more}
 use Rattle.putting.specs.FrameBits.{bitsOf, allBits}
 
 -- a frame has as many bits as its body and its tail

@@ -9,7 +9,7 @@ use Rattle.bits.specs.Put.{putBits}
 use Rattle.channel.specs.declared.Terms.{Terms}
 use Rattle.channel.specs.Verdict.{Context}
 use Rattle.channel.specs.Frames.{Frame}
-use Rattle.taking.specs.Taken.{Taken}
+use Rattle.taken.specs.Taken.{Taken}
 use Rattle.putting.specs.FrameBits.{allBits}
 
 -- the buffer after has the bits of the frames whose records these bytes are

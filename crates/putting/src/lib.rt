@@ -6,7 +6,7 @@ ghost use Rattle.bits.specs.Put.{putBits};
 ghost use Rattle.channel.specs.Frames.{behind};
 ghost use Rattle.plans.specs.Plan.{Plans};
 ghost use Rattle.parse.specs.Parsed.{frameBy};
-ghost use Rattle.taking.specs.Judged.{AllTaken};
+ghost use Rattle.taken.specs.Judged.{AllTaken};
 ghost use Rattle.putting.specs.FrameBits.{bitsOf};
 ghost use Rattle.putting.specs.Putting.{PutAs};
 use channel::Kind;
@@ -23,7 +23,7 @@ fn put_frame(buffer: &mut [u8], r: Record, k: Kind)
     let octets = r.octets;
     let body = kinds::body(k);
     lay::body(buffer, start, octets, body);
-    lay::tail(buffer, start + body, r.tail);
+    ones::tail(buffer, start + body, r.tail);
 }
 
 // Puts the bits of every frame whose record is among those judged, all of which are taken.

@@ -40,7 +40,7 @@ fn frame_at(s: &[u8], n: usize, t: Terms, p: usize, x: u8, masks: &mut [u64]) ->
                 return gap(p, 0);
             }
             let verdict = verdict::verdict_in(o, k, x, masks);
-            if !kinds::allowed_in(k, x, verdict) {
+            if !allowed::allowed_in(k, x, verdict) {
                 return gap(p, 0);
             }
             let tail = tails::tail_at(s, n, behind);

@@ -25,11 +25,13 @@ use Rattle.apart.proofs.OneLaws.{obeys-fit}
 use Rattle.channel.specs.Sound.{SoundAs, soundNumber}
 use Rattle.call.specs.declared.Answer.{Answer}
 use Rattle.call.specs.Call.{termsBy, cursorBy, answeredBy, refusedAt}
-use Rattle.writing.specs.declared.Request.{Request}
-use Rattle.taking.specs.Taken.{items, Taken, Decides}
+use Rattle.call.specs.declared.WriteRequest.{WriteRequest}
+use Rattle.refusal.specs.Refusal.{writeRefusal}
+use Rattle.taken.specs.Taken.{items, Taken, Decides}
 use Rattle.putting.specs.FrameBits.{allBits}
-use Rattle.writing.specs.Writing.{refusalOf, WrittenBy, WriteCall}
-use Rattle.writing.proofs.WriteLaws.{writable, Accepted, accepted, accepted-reach, write-one}
+use Rattle.writing.specs.Writing.{WrittenBy, WriteCall}
+use Rattle.refusal.proofs.RefusalLaws.{writable}
+use Rattle.writing.proofs.WriteLaws.{Accepted, accepted, accepted-reach, write-one}
 use Rattle.roundtrip.proofs.ShownLaws.{stretch-shows}
 use Rattle.roundtrip.proofs.RoundLaws.{accepted-shows}
 
@@ -92,7 +94,7 @@ module _ (w : Capture) (short : w .n < 4294967296) (bits : ℕ) where
             decides = r .decides;
           }
 
-module _ (capture : List ℕ) (n : ℕ) (ask : Request) (short : n < 4294967296) (fs : List Frame)
+module _ (capture : List ℕ) (n : ℕ) (ask : WriteRequest) (short : n < 4294967296) (fs : List Frame)
     (stretch : Stretch rules (captureOf capture n (termsBy (ask .terms))) (cursorBy (ask .cursor)) (items fs)) (buffer : List ℕ) where
   abbrev w : Capture
   w = captureOf capture n (termsBy (ask .terms))
@@ -108,7 +110,7 @@ module _ (capture : List ℕ) (n : ℕ) (ask : Request) (short : n < 4294967296)
   end = overAll rules c (items fs) .position
 
   abbrev refusal : ℕ
-  refusal = refusalOf (length (records (items fs))) ask (length buffer)
+  refusal = writeRefusal (length (records (items fs))) ask (length buffer)
 
   module _ (a : Answer) (after : List ℕ) (call : WriteCall (records (items fs)) ask buffer a after) where
     -- a stretch that ends by the end of the buffer is written

@@ -16,11 +16,12 @@ use Rattle.channel.specs.Record.{records}
 use Rattle.apart.proofs.OneLaws.{all-frames}
 use Rattle.call.specs.declared.Answer.{Answer}
 use Rattle.call.specs.Call.{termsBy, cursorBy, next, answeredBy}
-use Rattle.paging.specs.declared.Request as paging
+use Rattle.call.specs.declared.PageRequest.{PageRequest}
+use Rattle.call.specs.declared.WriteRequest.{WriteRequest}
+use Rattle.refusal.specs.Refusal.{writeRefusal}
 use Rattle.paging.specs.Paging.{PageCall}
-use Rattle.writing.specs.declared.Request as writing
-use Rattle.taking.specs.Taken.{items}
-use Rattle.writing.specs.Writing.{refusalOf, WriteCall}
+use Rattle.taken.specs.Taken.{items}
+use Rattle.writing.specs.Writing.{WriteCall}
 use Rattle.paging.proofs.HarvestLaws.{got, got-bytes, stretch, request}
 use Rattle.roundtrip.proofs.OwnLaws.{own-number, own-answer, own-bits}
 
@@ -32,7 +33,7 @@ pub record PageFrames (w : Capture) (c : Cursor Context) (bytes : List ℕ) (p :
   pub counted : length frames ≡ p .items
   pub moved : overAll rules c (items frames) ≡ cursorBy (next p)
 
-module _ (capture : List ℕ) (r : paging.Request) (room : List ℕ) (p : Answer) (out : List ℕ) (call : PageCall capture r room p out)
+module _ (capture : List ℕ) (r : PageRequest) (room : List ℕ) (p : Answer) (out : List ℕ) (call : PageCall capture r room p out)
     (taken-up : p .number ≡ 0) (gs : List Frame) (no-gaps : take (p .bytes) out ≡ records (items gs)) where
   abbrev w : Capture
   w = captureOf capture (r .n) (termsBy (r .terms))
@@ -41,7 +42,7 @@ module _ (capture : List ℕ) (r : paging.Request) (room : List ℕ) (p : Answer
   c = cursorBy (r .cursor)
 
   -- what is asked of writing it back
-  abbrev ask : writing.Request
+  abbrev ask : WriteRequest
   ask = record { terms = r .terms; cursor = r .cursor }
 
   -- what a page answers whose records are all of frames is a stretch of frames
@@ -69,10 +70,10 @@ module _ (capture : List ℕ) (r : paging.Request) (room : List ℕ) (p : Answer
     own = subst (λ (l : List ℕ). WriteCall l ask buffer a after) (page-written .same) write
 
     -- exactly when: written from the cursor it was read at it is refused by 4 where the cursor answered lies past the buffer, and else not, unless by 1 to 3
-    pub page-number : refusalOf (length (take (p .bytes) out)) ask (length buffer) ≡ 0 → a .number ≡ cond (ltb (8 * length buffer) (p .position)) 4 0
+    pub page-number : writeRefusal (length (take (p .bytes) out)) ask (length buffer) ≡ 0 → a .number ≡ cond (ltb (8 * length buffer) (p .position)) 4 0
     page-number z =
         own-number capture (r .n) ask short fs (page-written .stretch) buffer a after own
-        (ap (λ (l : List ℕ). refusalOf (length l) ask (length buffer)) (sym (page-written .same)) ∙ z)
+        (ap (λ (l : List ℕ). writeRefusal (length l) ask (length buffer)) (sym (page-written .same)) ∙ z)
         ∙ ap (λ (y : Cursor Context). cond (ltb (8 * length buffer) (y .position)) 4 0) (page-written .moved)
 
     module _ (written-up : a .number ≡ 0) where

@@ -14,16 +14,16 @@ use Rattle.channel.proofs.ChannelLaws.{unique}
 use Rattle.channel.specs.Record.{records}
 use Rattle.call.specs.declared.Answer.{Answer}
 use Rattle.call.specs.Call.{termsBy, cursorBy, next}
-use Rattle.paging.specs.Paging.{refusalOf}
-use Rattle.writing.specs.declared.Request.{Request}
-use Rattle.taking.specs.Taken.{items}
+use Rattle.call.specs.declared.WriteRequest.{WriteRequest}
+use Rattle.refusal.specs.Refusal.{pageRefusal}
+use Rattle.taken.specs.Taken.{items}
 use Rattle.putting.specs.FrameBits.{allBits}
 use Rattle.writing.specs.Writing.{WriteCall}
 use Rattle.paging.specs.Harvest.{Asked, Harvest, harvested, counted}
 use Rattle.paging.proofs.HarvestLaws.{harvest-is}
-use Rattle.paging.proofs.CallLaws.{admit}
-use Rattle.taking.proofs.TakeLaws.{taken-records}
-use Rattle.writing.proofs.WriteLaws.{writable, Accepted, accepted, accepted-reach, accepted-fits, write-length}
+use Rattle.refusal.proofs.RefusalLaws.{admit, writable}
+use Rattle.taken.proofs.TakeLaws.{taken-records}
+use Rattle.writing.proofs.WriteLaws.{Accepted, accepted, accepted-reach, accepted-fits, write-length}
 use Rattle.roundtrip.proofs.ShownLaws.{Shows, taken-stretch}
 
 -- what a reading has of records that were written: their bytes, as many items, and the cursor where writing ended
@@ -32,7 +32,7 @@ pub record ReadBack (c : Cursor Context) (bytes : List ℕ) (a : Answer) (xs : L
   pub counted : length xs ≡ a .items
   pub moved : overAll rules c xs ≡ cursorBy (next a)
 
-module _ (bytes : List ℕ) (ask : Request) (buffer : List ℕ) (a : Answer) (after : List ℕ) where
+module _ (bytes : List ℕ) (ask : WriteRequest) (buffer : List ℕ) (a : Answer) (after : List ℕ) where
   -- the bits after are those of the frames taken
   pub accepted-shows : (s : Accepted bytes ask buffer a after) → Shows (bitAt after) (ask .cursor .position) (allBits (s .frames))
   accepted-shows s k h =
@@ -66,7 +66,7 @@ module _ (bytes : List ℕ) (ask : Request) (buffer : List ℕ) (a : Answer) (af
     write-read ys r = let (xs, q, b) = write-reads in subst (ReadBack c bytes a) (unique w c xs ys q r) b
 
     -- paging does not refuse that capture and cursor by 1 to 3
-    pub write-pages : (most : ℕ) → 0 < most → refusalOf (length after) (record { n = a .position; terms = ask .terms; cursor = ask .cursor; most = most }) ≡ 0
+    pub write-pages : (most : ℕ) → 0 < most → pageRefusal (length after) (record { n = a .position; terms = ask .terms; cursor = ask .cursor; most = most }) ≡ 0
     write-pages most h =
         let s = accepted bytes ask buffer a after call taken-up in
         let r = writable (length bytes) ask (length buffer) (s .admitted) in

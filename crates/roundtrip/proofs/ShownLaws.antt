@@ -25,8 +25,8 @@ use Rattle.channel.specs.Frames.{Capture, Frame, Stands, behind, rules}
 use Rattle.channel.proofs.BoolLaws.{ands, zero-at}
 use Rattle.channel.proofs.FrameLaws.{body-low}
 use Rattle.channel.specs.Sound.{FitFrame}
-use Rattle.taking.specs.Taken.{items, Taken}
-use Rattle.taking.proofs.TakeLaws.{passes}
+use Rattle.taken.specs.Taken.{items, Taken}
+use Rattle.taken.proofs.TakeLaws.{passes}
 use Rattle.putting.specs.FrameBits.{bitsOf, allBits}
 use Rattle.putting.proofs.FrameLaws.{length-bits, taken-length}
 

@@ -4,7 +4,7 @@ ghost use lib.ListN.{length};
 ghost use Rattle.plans.specs.Plan.{Plans};
 ghost use Rattle.masks.specs.Kept.{Kept};
 ghost use Rattle.item.specs.Item.{cursorOf};
-ghost use Rattle.taking.specs.Judged.{JudgedAs};
+ghost use Rattle.taken.specs.Judged.{JudgedAs};
 use channel::Terms;
 use item::Cursor;
 use item::ItemKind;

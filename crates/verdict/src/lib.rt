@@ -62,13 +62,13 @@ fn lower_verdict(w: Words, mode: u8, m: &mut [u64]) -> u8
     ensures { λ r. ⌜ Kept (now (m .exit)) × ((o : List ℕ) → Holds (bitAt o) (w .a) (w .b) (w .c) → r ≡ 128 * toN (eqb mode 0) + 16 * mode + wrongs (bitAt o) (checksLower mode)) ⌝ }
 {
     if mode == 1 {
-        return 16 + masks::four_wrongs(w, m, 1);
+        return 16 + wrongs::four_wrongs(w, m, 1);
     }
     if mode == 2 {
-        return 32 + masks::four_wrongs(w, m, 5);
+        return 32 + wrongs::four_wrongs(w, m, 5);
     }
     if mode == 3 {
-        return 48 + masks::one_wrong(w, m, 9);
+        return 48 + wrongs::one_wrong(w, m, 9);
     }
     128
 }
@@ -80,7 +80,7 @@ pub fn verdict_in(o: [u8; 20], k: Kind, x: u8, m: &mut [u64]) -> u8
 {
     let w = word::words_of(&o);
     match k {
-        Kind::Speech => masks::one_wrong(w, m, 0),
+        Kind::Speech => wrongs::one_wrong(w, m, 0),
         Kind::Data => 0,
         Kind::Om => 0,
         Kind::Configuration => 0,
@@ -89,8 +89,8 @@ pub fn verdict_in(o: [u8; 20], k: Kind, x: u8, m: &mut [u64]) -> u8
             let mode = mode_in(w, x);
             lower_verdict(w, mode, m)
         }
-        Kind::Amr670 => masks::one_wrong(w, m, 10),
-        Kind::Amr740 => masks::one_wrong(w, m, 11),
+        Kind::Amr670 => wrongs::one_wrong(w, m, 10),
+        Kind::Amr740 => wrongs::one_wrong(w, m, 11),
     }
 }
 

@@ -9,14 +9,15 @@ use Rattle.channel.specs.declared.Terms.{Terms}
 use Rattle.channel.specs.Verdict.{Context}
 use Rattle.call.specs.declared.Answer.{Answer}
 use Rattle.call.specs.Call.{termsBy, cursorBy, answeredBy, refusedAt}
-use Rattle.taking.specs.Judged.{JudgedAs}
-use Rattle.taking.proofs.JudgeLaws.{whole}
+use Rattle.call.specs.declared.WriteRequest.{WriteRequest}
+use Rattle.refusal.specs.Refusal.{writeRefusal}
+use Rattle.taken.specs.Judged.{JudgedAs}
+use Rattle.taken.proofs.JudgeLaws.{whole}
 use Rattle.putting.specs.Putting.{PutAs}
-use Rattle.writing.specs.declared.Request.{Request}
-use Rattle.writing.specs.Writing.{refusalOf, Put, Written, WrittenBy, WriteCall}
-use Rattle.writing.proofs.WriteLaws.{Writable, writable}
+use Rattle.writing.specs.Writing.{Put, Written, WrittenBy, WriteCall}
+use Rattle.refusal.proofs.RefusalLaws.{Writable, writable}
 
-module _ (bytes : List ℕ) (ask : Request) (buffer : List ℕ) (number : ℕ) (e : number ≡ refusalOf (length bytes) ask (length buffer)) where
+module _ (bytes : List ℕ) (ask : WriteRequest) (buffer : List ℕ) (number : ℕ) (e : number ≡ writeRefusal (length bytes) ask (length buffer)) where
   -- what 1 to 3 ask, where they do not refuse
   pub admits : number ≡ 0 → Writable (length bytes) ask (length buffer)
   admits z = writable (length bytes) ask (length buffer) (sym e ∙ z)
@@ -24,7 +25,7 @@ module _ (bytes : List ℕ) (ask : Request) (buffer : List ℕ) (number : ℕ) (
   pub refused-write : (a : Answer) → (number ≡ 0 → ⊥) → a ≡ refusedAt number 0 (ask .cursor) → WriteCall bytes ask buffer a buffer
   refused-write a z r = go number e z r
     where
-      go : (n : ℕ) → n ≡ refusalOf (length bytes) ask (length buffer) → (n ≡ 0 → ⊥) → a ≡ refusedAt n 0 (ask .cursor) → WriteCall bytes ask buffer a buffer
+      go : (n : ℕ) → n ≡ writeRefusal (length bytes) ask (length buffer) → (n ≡ 0 → ⊥) → a ≡ refusedAt n 0 (ask .cursor) → WriteCall bytes ask buffer a buffer
       go zero e z r = absurd (z refl)
       go (suc n) e z r = subst (λ (k : ℕ). WrittenBy k (termsBy (ask .terms)) (ask .cursor) bytes buffer a buffer) e (r, refl)
 

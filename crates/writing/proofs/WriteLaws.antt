@@ -5,8 +5,6 @@ use mathlib.Core.Logic.{_⊎_, inl, inr}
 use mathlib.Core.List.{List, []}
 use Prim.Native.Nat.{ℕ, zero, suc, _+_, _*_, _≤_, _<_}
 use native.Mathlib.Omega.{arith}
-use borrow.Author.Tests.{ltb-false}
-use lib.Dec.{ltb}
 use lib.ListN.{length}
 use Rattle.reading.specs.Reading.{Cursor, overAll}
 use Rattle.bits.specs.Bit.{bitAt}
@@ -18,41 +16,18 @@ use Rattle.channel.specs.Frames.{Frame, rules}
 use Rattle.call.specs.declared.CursorNumbers.{CursorNumbers}
 use Rattle.call.specs.declared.Answer.{Answer}
 use Rattle.call.specs.Call.{termsBy, cursorBy, answeredBy, refusedAt}
-use Rattle.call.proofs.NumberLaws.{passed}
-use Rattle.taking.specs.Taken.{items, Taken, Decides}
-use Rattle.taking.proofs.TakeLaws.{decides-all, taken-one, taken-within}
+use Rattle.call.specs.declared.WriteRequest.{WriteRequest}
+use Rattle.refusal.specs.Refusal.{writeRefusal}
+use Rattle.refusal.proofs.RefusalLaws.{writable}
+use Rattle.taken.specs.Taken.{items, Taken, Decides}
+use Rattle.taken.proofs.TakeLaws.{decides-all, taken-one, taken-within}
 use Rattle.putting.specs.FrameBits.{allBits}
 use Rattle.putting.proofs.FrameLaws.{taken-length}
-use Rattle.writing.specs.declared.Request.{Request}
-use Rattle.writing.specs.Writing.{refusalOf, Put, WrittenBy, WriteCall}
-
--- what 1 to 3 ask of a request
-pub record Writable (bytes : ℕ) (ask : Request) (room : ℕ) : Type 0 where
-  pub way : (ask .terms .direction) ≤ 1
-  pub few : bytes ≤ 65536
-  pub short : room ≤ 65536
-  pub inside : (ask .cursor .position) ≤ 8 * room
-  pub known : (ask .cursor .context) ≤ 5
-
--- it holds where they do not refuse it
-pub writable : (bytes : ℕ) (ask : Request) (room : ℕ) → refusalOf bytes ask room ≡ 0 → Writable bytes ask room
-writable bytes ask room e =
-    let (a, e₁) = passed (ltb 1 (ask .terms .direction)) 1 _ (omega arith) e in
-    let (b, e₂) = passed (ltb 65536 bytes) 1 _ (omega arith) e₁ in
-    let (c, e₃) = passed (ltb 65536 room) 2 _ (omega arith) e₂ in
-    let (d, e₄) = passed (ltb (8 * room) (ask .cursor .position)) 3 _ (omega arith) e₃ in
-    let (f, e₅) = passed (ltb 5 (ask .cursor .context)) 3 _ (omega arith) e₄ in
-    record {
-      way = omega (arith, ltb-false 1 (ask .terms .direction) a);
-      few = omega (arith, ltb-false 65536 bytes b);
-      short = omega (arith, ltb-false 65536 room c);
-      inside = omega (arith, ltb-false (8 * room) (ask .cursor .position) d);
-      known = omega (arith, ltb-false 5 (ask .cursor .context) f);
-    }
+use Rattle.writing.specs.Writing.{Put, WrittenBy, WriteCall}
 
 -- a request that was not refused: the frames whose records were taken, and what was answered and put of them
-pub record Accepted (bytes : List ℕ) (ask : Request) (buffer : List ℕ) (a : Answer) (after : List ℕ) : Type 0 where
-  pub admitted : refusalOf (length bytes) ask (length buffer) ≡ 0
+pub record Accepted (bytes : List ℕ) (ask : WriteRequest) (buffer : List ℕ) (a : Answer) (after : List ℕ) : Type 0 where
+  pub admitted : writeRefusal (length bytes) ask (length buffer) ≡ 0
   pub frames : List Frame
   pub whole : Taken (termsBy (ask .terms)) (8 * length buffer) (cursorBy (ask .cursor)) bytes frames []
   pub answered : a ≡ answeredBy (length frames) 0 (overAll rules (cursorBy (ask .cursor)) (items frames))
@@ -64,7 +39,7 @@ pub record Refused (cursor : CursorNumbers) (buffer : List ℕ) (a : Answer) (af
   pub answered : a ≡ refusedAt (a .number) (a .index) cursor
   pub stands : after ≡ buffer
 
-module _ (bytes : List ℕ) (ask : Request) (buffer : List ℕ) where
+module _ (bytes : List ℕ) (ask : WriteRequest) (buffer : List ℕ) where
   abbrev terms : Terms
   terms = termsBy (ask .terms)
 
@@ -72,7 +47,7 @@ module _ (bytes : List ℕ) (ask : Request) (buffer : List ℕ) where
   c = cursorBy (ask .cursor)
 
   abbrev refusal : ℕ
-  refusal = refusalOf (length bytes) ask (length buffer)
+  refusal = writeRefusal (length bytes) ask (length buffer)
 
   put-one : (number : ℕ) (fs : List Frame) (a b : Answer) (after later : List ℕ) → Put number (ask .cursor) fs buffer a after → Put number (ask .cursor) fs buffer b later → (a ≡ b) × (after ≡ later)
   put-one zero fs a b after later p q = (p .0 ∙ sym (q .0), p .1 ∙ sym (q .1))
@@ -116,7 +91,7 @@ module _ (bytes : List ℕ) (ask : Request) (buffer : List ℕ) where
       go zero z (fs, left, number, t, x, p) = decided z number fs left t x p
       go (suc number) z p = inr (refused-as number 0 (p .0) (p .1))
 
-module _ (bytes : List ℕ) (ask : Request) (buffer : List ℕ) (a : Answer) (after : List ℕ) where
+module _ (bytes : List ℕ) (ask : WriteRequest) (buffer : List ℕ) (a : Answer) (after : List ℕ) where
   -- the bits put reach from the cursor given to the cursor answered
   pub accepted-reach : (s : Accepted bytes ask buffer a after) → (ask .cursor .position) + length (allBits (s .frames)) ≡ a .position
   accepted-reach s =

@@ -1,47 +1,14 @@
 // Writing: records back to bits. All of them are judged before the first bit is put, so that a refusal leaves the buffer as it was.
-ghost use mathlib.Core.Path.{_≡_};
-ghost use Rattle.writing.specs.Writing.{refusalOf, WriteCall};
+ghost use Rattle.writing.specs.Writing.{WriteCall};
 use call::Answer;
-use call::CursorNumbers;
-use call::TermNumbers;
+use call::WriteRequest;
 use item::Cursor;
 
-// What is asked of writing: what is agreed of the capture that the bits are for, and the cursor.
-pub struct Request {
-    pub terms: TermNumbers,
-    pub cursor: CursorNumbers,
-}
-
-// The numbers 1 to 3 in their order, or 0.
-fn refusal(bytes: usize, r: Request, room: usize) -> u64
-    ensures { λ number. ⌜ number ≡ refusalOf bytes r room ⌝ }
-{
-    let cursor = r.cursor;
-    let terms = r.terms;
-    if 1 < terms.direction {
-        return 1;
-    }
-    if 65536 < bytes {
-        return 1;
-    }
-    if 65536 < room {
-        return 2;
-    }
-    let bits = 8 * room as u64;
-    if bits < cursor.position {
-        return 3;
-    }
-    if 5 < cursor.context {
-        return 3;
-    }
-    0
-}
-
 // Records back to bits, from the cursor's position on: body and tail bits are put, other bits keep their value; items and the cursor after.
-pub fn write(records: &[u8], r: Request, buffer: &mut [u8]) -> Answer
+pub fn write(records: &[u8], r: WriteRequest, buffer: &mut [u8]) -> Answer
     ensures { λ a. ⌜ WriteCall (now (records .entry)) r (now (buffer .entry)) a (now (buffer .exit)) ⌝ }
 {
-    let number = refusal(records.len(), r, buffer.len());
+    let number = refusal::write(records.len(), r, buffer.len());
     if number != 0 {
         return call::refuse(number, 0, r.cursor);
     }

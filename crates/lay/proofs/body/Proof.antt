@@ -8,7 +8,7 @@ use borrow.Author.Needs.{needs}
 use lib.ListN.{length, getD, length-set, List·getD-eq-default}
 use Rattle.bits.specs.Bit.{bitAt}
 use Rattle.bits.proofs.BitLaws.{byte-bit}
-use Rattle.lay.proofs.LayLaws.{left, turn-whole, runs-all, set-bytes}
+use Rattle.put.proofs.LayLaws.{left, turn-whole, runs-all, set-bytes}
 use Rattle.lay.proofs.body.Statement.{statement}
 use Rattle.lay.proofs.body.Tie as tie
 

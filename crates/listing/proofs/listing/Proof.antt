@@ -2,7 +2,7 @@
 -- Assumes nothing.
 use native.Mathlib.Omega.{arith}
 use borrow.Author.Needs.{needs}
-use Rattle.lines.specs.Line.{refusalLine}
+use Rattle.line.specs.Line.{refusalLine}
 use Rattle.listing.proofs.ListLaws.{without-direction, with-direction}
 use Rattle.listing.proofs.listing.Statement.{statement}
 use Rattle.listing.proofs.listing.Tie as tie

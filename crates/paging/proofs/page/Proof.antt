@@ -4,7 +4,8 @@ use mathlib.Core.Path.{_≡_, sym, _∙_}
 use native.Mathlib.Omega.{arith}
 use lib.ListN.{length}
 use Rattle.item.specs.Item.{cursorOf}
-use Rattle.paging.proofs.CallLaws.{admitted, refused-call, taken-call}
+use Rattle.refusal.proofs.RefusalLaws.{admitted}
+use Rattle.paging.proofs.CallLaws.{refused-call, taken-call}
 use borrow.Author.Needs.{needs}
 use Rattle.paging.proofs.page.Statement.{statement}
 use Rattle.paging.proofs.page.Tie as tie
@@ -12,26 +13,26 @@ use Rattle.paging.proofs.page.Tie as tie
 returns : tie.Need-returns
 returns c =
     let a = c .before .before .before .before .before .args in
-    let the-refusal = c .before .before .refusal in
+    let the-refusal = c .before .before .page in
     refused-call (a .capture .now) (a .r) (a .buffer .now) (the-refusal .result) (c .refuse .result) (the-refusal .ensures) (c .before .if1 .taken) (c .refuse .ensures)
 
 cast-t10 : tie.Need-cast-t10
 cast-t10 c =
     let a = c .before .before .before .before .before .before .args in
-    let z : c .before .before .before .refusal .result ≡ 0 = omega arith in
-    omega (arith, admitted (length (a .capture .now)) (a .r) (sym (c .before .before .before .refusal .ensures) ∙ z) .known)
+    let z : c .before .before .before .page .result ≡ 0 = omega arith in
+    omega (arith, admitted (length (a .capture .now)) (a .r) (sym (c .before .before .before .page .ensures) ∙ z) .known)
 
 fill-requires : tie.Need-fill-requires
 fill-requires c κs =
     let a = c .before .before .before .before .before .before .before .before .args in
-    let z : c .before .before .before .before .before .refusal .result ≡ 0 = omega arith in
-    let m = admitted (length (a .capture .now)) (a .r) (sym (c .before .before .before .before .before .refusal .ensures) ∙ z) in
+    let z : c .before .before .before .before .before .page .result ≡ 0 = omega arith in
+    let m = admitted (length (a .capture .now)) (a .r) (sym (c .before .before .before .before .before .page .ensures) ∙ z) in
     (omega (arith, m .inside), omega (arith, m .count), m .short)
 
 returns-2 : tie.Need-returns-2
 returns-2 c =
     let a = c .before .before .before .before .before .before .before .before .before .before .before .before .args in
-    let the-refusal = c .before .before .before .before .before .before .before .before .before .refusal in
+    let the-refusal = c .before .before .before .before .before .before .before .before .before .page in
     let the-terms-of = c .before .before .before .before .before .terms-of in
     let the-fill = c .before .before .before .fill in
     let z : the-refusal .result ≡ 0 = omega (arith, c .before .before .before .before .before .before .before .before .if1 .left) in

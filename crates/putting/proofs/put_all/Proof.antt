@@ -14,7 +14,7 @@ use Rattle.plans.specs.Plan.{Plans}
 use Rattle.numbers.proofs.SizeLaws.{size-pos}
 use Rattle.parse.specs.Parsed.{RecordBy, frameBy}
 use Rattle.apart.proofs.FrontLaws.{record-none, record-is}
-use Rattle.taking.specs.Taken.{Taken}
+use Rattle.taken.specs.Taken.{Taken}
 use Rattle.putting.proofs.FrameLaws.{Putting, put-start, put-sound, put-next, put-done}
 use borrow.Author.Needs.{needs}
 use Rattle.putting.proofs.put_all.Statement.{statement}

@@ -16,7 +16,7 @@ use Rattle.numbers.proofs.SizeLaws.{size-pos, size-le}
 use Rattle.parse.specs.Parsed.{frameBy}
 use Rattle.judge.specs.Judged.{Judged}
 use Rattle.judge.proofs.SoundLaws.{judged-frame, judged-none}
-use Rattle.taking.proofs.JudgeLaws.{Judging, judge-start, judge-turn, judged-refused, judged-unsound, judged-all}
+use Rattle.taken.proofs.JudgeLaws.{Judging, judge-start, judge-turn, judged-refused, judged-unsound, judged-all}
 use borrow.Author.Needs.{needs}
 use Rattle.taking.proofs.judge_all.Statement.{statement}
 use Rattle.taking.proofs.judge_all.Tie as tie
