@@ -30,13 +30,17 @@ static const cover lower_475[] = {
 static const cover lower_515[] = {
 	{5, {{6, 21}, {24, 34}, {47, 51}}, 52}, {0, {{55, 61}, {74, 78}}, 79}, {0, {{82, 83}, {96, 100}}, 101}, {0, {{104, 105}, {118, 122}}, 123}};
 static const cover lower_590[] = {{5, {{1, 17}, {27, 34}, {48, 51}}, 52}};
+static const cover silence[] = {{5, {{1, 51}}, 52}};
 static const cover amr_670[] = {{3, {{1, 17}, {20, 20}, {24, 24}, {27, 34}, {49, 53}}, 56}};
 static const cover amr_740[] = {{3, {{1, 20}, {22, 24}, {27, 32}, {52, 53}, {55, 57}}, 59}};
 static const cover speech[] = {{0, {{1, 44}}, 0}}; /* its CRC bits are no D bits */
 
-static checks by_kind[9], by_mode[4];
+static checks by_kind[9], by_mode[4], carried;
 
-const checks *checks_of(unsigned kind, unsigned mode) { return kind == BELLROPE_LOWER ? &by_mode[mode] : &by_kind[kind]; }
+const checks *checks_of(unsigned kind, unsigned mode) {
+	if (kind == BELLROPE_LOWER) return &by_mode[mode];
+	return mode ? &carried : &by_kind[kind];
+}
 
 static void add(places *to, uint8_t place) { to->at[to->count++] = place; }
 
@@ -71,6 +75,7 @@ static void prepare_checks(checks *to, unsigned kind, const cover *covers, unsig
 void prepare_frames(void) {
 	for (unsigned kind = BELLROPE_SPEECH; kind <= BELLROPE_AMR_740; kind++) prepare_layout(&layouts[kind]);
 	prepare_checks(&by_kind[BELLROPE_SPEECH], BELLROPE_SPEECH, speech, 1);
+	prepare_checks(&carried, BELLROPE_NO_SPEECH, silence, 1);
 	prepare_checks(&by_mode[1], BELLROPE_LOWER, lower_475, 4);
 	prepare_checks(&by_mode[2], BELLROPE_LOWER, lower_515, 4);
 	prepare_checks(&by_mode[3], BELLROPE_LOWER, lower_590, 1);

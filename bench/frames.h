@@ -26,8 +26,8 @@ typedef struct {
 
 extern layout layouts[9];
 
-/* The CRCs of a kind (1, 6, 7, 8), of kind 6 by mode (1 to 3 for 4,75, 5,15, 5,90), which is 0 for the others: places covered, then those of the three CRC
- * bits. */
+/* The CRCs of a kind (1, 5 to 8), of kind 6 by mode (1 to 3 for 4,75, 5,15, 5,90), of kind 5 by whether its class carries one (1), which is 0 for the
+ * others: places covered, then those of the three CRC bits. */
 typedef struct {
 	unsigned count;
 	places covered[4];

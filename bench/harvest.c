@@ -20,7 +20,7 @@
 #define PAGE 4096
 #define PAGES 64
 
-typedef bellrope_answer paging(const uint8_t *, size_t, uint64_t, uint64_t, uint64_t, uint64_t, uint64_t, uint8_t *, size_t);
+typedef bellrope_answer paging(const uint8_t *, size_t, uint64_t, uint64_t, uint8_t, uint64_t, uint64_t, uint64_t, uint8_t *, size_t);
 
 static const char *name; /* of the file in hand */
 static uint8_t capture[BELLROPE_BYTES_MOST];
@@ -45,7 +45,7 @@ static void load(const char *path, size_t most) {
 
 /* A page of at most so many items from the cursor of the last answer. */
 static bellrope_answer page(paging *call, bellrope_answer last, uint64_t most, uint8_t *buffer) {
-	bellrope_answer a = call(capture, bytes, 8 * bytes, direction, last.position, last.context, most, buffer, PAGE);
+	bellrope_answer a = call(capture, bytes, 8 * bytes, direction, 0, last.position, last.context, most, buffer, PAGE);
 	if (a.number) fail("a page is refused. Give a capture with a direction of 0 or 1.");
 	return a;
 }
@@ -57,7 +57,7 @@ static void harvest(paging *call, uint64_t most) {
 
 /* Writes records from the cursor of the answer before them. */
 static void write_records(bellrope_answer before, const uint8_t *records, size_t len) {
-	bellrope_answer a = bellrope_write(records, len, direction, before.position, before.context, written, bytes);
+	bellrope_answer a = bellrope_write(records, len, direction, 0, before.position, before.context, written, bytes);
 	if (a.number) fail("its records are refused. Give a capture without a gap, and so many bytes that they end with a frame.");
 }
 

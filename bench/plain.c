@@ -7,6 +7,7 @@
 typedef struct {
 	const uint8_t *bytes;
 	uint64_t n, direction;
+	uint8_t profile;
 } capture;
 
 typedef struct {
@@ -51,14 +52,17 @@ static int coded(capture a, uint64_t p, unsigned kind) {
 }
 
 static unsigned verdict(capture a, uint64_t p, unsigned kind, uint64_t context) {
-	unsigned mode = 0, wrong = 0;
-	if (kind == BELLROPE_NO_SPEECH) return 128;
+	unsigned mode = 0, carries = 0, wrong = 0;
+	if (kind == BELLROPE_NO_SPEECH) {
+		carries = a.profile >> number_at(a.bytes, p, layouts[kind].d.at + 7, 3) & 1;
+		if (!carries) return 128;
+	}
 	if (kind == BELLROPE_LOWER) {
 		mode = own_mode(a, p);
 		if (!mode && context >= 3) mode = context - 2;
 		if (!mode) return 128;
 	}
-	const checks *crcs = checks_of(kind, mode);
+	const checks *crcs = checks_of(kind, mode | carries);
 	for (unsigned i = 0; i < crcs->count; i++)
 		if (!crc_right(a.bytes, p, &crcs->covered[i])) wrong |= 1u << i;
 	return mode << 4 | wrong;
@@ -143,9 +147,9 @@ static uint64_t after(capture a, const item *i) {
 	return i->kind == BELLROPE_LOWER ? 2 + own_mode(a, i->start) : 2;
 }
 
-bellrope_answer plain_page(const uint8_t *bytes, size_t len, uint64_t n, uint64_t direction, uint64_t position, uint64_t context, uint64_t most,
-                           uint8_t *buffer, size_t buffer_len) {
-	capture a = {bytes, n, direction};
+bellrope_answer plain_page(const uint8_t *bytes, size_t len, uint64_t n, uint64_t direction, uint8_t profile, uint64_t position, uint64_t context,
+                           uint64_t most, uint8_t *buffer, size_t buffer_len) {
+	capture a = {bytes, n, direction, profile};
 	bellrope_answer r = {.position = position, .context = context};
 	item i;
 	(void)len;

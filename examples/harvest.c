@@ -1,4 +1,4 @@
-/* harvest [up|down] FILE [PAGE_BYTES] [--csv]: reads a capture to its end, page by page, and prints what is in it.
+/* harvest [up|down] FILE [PAGE_BYTES] [--profile N] [--csv]: reads a capture to its end, page by page, and prints what is in it.
  *
  * FILE is a capture file: one byte of direction, 0 for uplink or 1 for downlink, and then the channel's bits, the first bit sent being the top bit of the
  * first byte. Behind the word up or down, FILE holds the bits alone. n is eight times their bytes. PAGE_BYTES is the size of a page, 4096 if none is given.
@@ -7,10 +7,12 @@
  * The summary counts the items and their bits, and for each kind of frame:
  *   frames              all of them
  *   right, wrong        those with every CRC right, and those with one wrong or more; kinds 2 to 4 have no CRC and stand in none of these columns
- *   unchecked           those whose CRCs cannot be checked: No_Speech, and lower speech of which no mode is known
+ *   unchecked           those whose CRCs cannot be checked: No_Speech of a class that carries none, and lower speech of which no mode is known
  *   slipped             those whose tail is not the usual one of the kind
  *   dropped, added      the bits that these tails are short of the usual, and those they have beyond it, each summed over the frames
  * The capture's last tail ends at n, even if more of it was sent.
+ *
+ * --profile N, from 0 to 255, says which classes of No_Speech carry a CRC: bit k of N, 0 the lowest, for class k. Without it none does.
  *
  * With --csv it prints instead a heading and one line for each record, in decimal but for the D bits: those are in hexadecimal, as they stand in the
  * record. A gap is kind 0; it has its length for a tail, and the rest is empty.
@@ -146,37 +148,70 @@ static int read_size(const char *word, size_t *size) {
 	return word[0] >= '0' && word[0] <= '9' && *end == '\0' && errno == 0;
 }
 
+/* What the command line asks. */
+typedef struct {
+	const char *words[3]; /* up or down, FILE, PAGE_BYTES, as far as they are given */
+	int count;            /* of them */
+	int up, down, csv;
+	size_t page_bytes, profile;
+} request;
+
+/* Takes up or down from the words, and the size of a page. Answers 0 if there is no FILE or a word too many. */
+static int read_places(request *r) {
+	r->up = r->count > 0 && strcmp(r->words[0], "up") == 0;
+	r->down = r->count > 0 && strcmp(r->words[0], "down") == 0;
+	if (r->up || r->down) {
+		r->count--;
+		memmove(r->words, r->words + 1, sizeof r->words - sizeof r->words[0]);
+	}
+	return r->count == 1 || (r->count == 2 && read_size(r->words[1], &r->page_bytes));
+}
+
+/* Reads the command line; answers 0 if it is none. */
+static int read_words(int argc, char **argv, request *r) {
+	int profiled = 0;
+	*r = (request){.page_bytes = 4096};
+	for (int i = 1; i < argc; i++) {
+		if (strcmp(argv[i], "--csv") == 0 && !r->csv) r->csv = 1;
+		else if (strcmp(argv[i], "--profile") == 0 && !profiled && i + 1 < argc && read_size(argv[i + 1], &r->profile) && r->profile <= UINT8_MAX)
+			profiled = 1, i++;
+		else if (strncmp(argv[i], "--", 2) != 0 && r->count < 3) r->words[r->count++] = argv[i];
+		else return 0;
+	}
+	return read_places(r);
+}
+
 static int usage(void) {
-	fprintf(stderr, "usage: harvest [up|down] FILE [PAGE_BYTES] [--csv]\n");
+	fprintf(stderr, "usage: harvest [up|down] FILE [PAGE_BYTES] [--profile N] [--csv], N from 0 to 255\n");
 	return 2;
 }
 
 int main(int argc, char **argv) {
 	static uint8_t bytes[BELLROPE_BYTES_MOST + 2]; /* direction, and one byte more than a capture may have: the library then refuses it */
 	static summary s;
-	size_t len, page_bytes = 4096;
-	int csv = argc > 1 && strcmp(argv[argc - 1], "--csv") == 0;
-	int up = argc > 1 && strcmp(argv[1], "up") == 0, down = argc > 1 && strcmp(argv[1], "down") == 0;
-	char **words = argv + 1 + (up || down), **end = argv + argc - csv;
-	if (end - words < 1 || end - words > 2 || (end - words == 2 && !read_size(words[1], &page_bytes))) return usage();
-	if (!read_file(words[0], bytes, sizeof bytes, &len)) {
-		fprintf(stderr, "harvest: %s cannot be read: %s\n", words[0], strerror(errno));
+	request r;
+	size_t len;
+	if (!read_words(argc, argv, &r)) return usage();
+	const char *file = r.words[0];
+	if (!read_file(file, bytes, sizeof bytes, &len)) {
+		fprintf(stderr, "harvest: %s cannot be read: %s\n", file, strerror(errno));
 		return 2;
 	}
-	uint8_t *page = malloc(page_bytes);
-	if (!page && page_bytes) {
-		fprintf(stderr, "harvest: there is no memory for a page of %zu bytes. Give fewer.\n", page_bytes);
+	uint8_t *page = malloc(r.page_bytes);
+	if (!page && r.page_bytes) {
+		fprintf(stderr, "harvest: there is no memory for a page of %zu bytes. Give fewer.\n", r.page_bytes);
 		return 2;
 	}
 	bellrope_capture capture = capture_in(bytes, len);
-	if (up || down) capture = bellrope_capture_of(bytes, len, 8 * (uint64_t)len, down ? BELLROPE_DOWNLINK : BELLROPE_UPLINK);
-	uint64_t number = harvest(capture, page, page_bytes, &s, csv);
+	if (r.up || r.down) capture = bellrope_capture_of(bytes, len, 8 * (uint64_t)len, r.down ? BELLROPE_DOWNLINK : BELLROPE_UPLINK);
+	capture.profile = (uint8_t)r.profile;
+	uint64_t number = harvest(capture, page, r.page_bytes, &s, r.csv);
 	free(page);
-	if (number == BELLROPE_TAKEN && !csv) print_summary(&s, capture);
+	if (number == BELLROPE_TAKEN && !r.csv) print_summary(&s, capture);
 	if (fflush(stdout) || ferror(stdout)) {
 		fprintf(stderr, "harvest: the output cannot be written: %s\n", strerror(errno));
 		return 2;
 	}
-	if (number != BELLROPE_TAKEN) explain(number, words[0], page_bytes);
+	if (number != BELLROPE_TAKEN) explain(number, file, r.page_bytes);
 	return number == BELLROPE_TAKEN ? 0 : 1;
 }

@@ -2,10 +2,10 @@
  * For C99 and later, and C++; x86-64, -lbellrope.
  *
  * A capture is bytes and a bit count n. Position 0 is the first bit sent, the top bit of the first
- * byte; bits from n on are never looked at. A capture and a direction have one reading: a list of
- * items, frames and gaps, that lie end to end. Paging hands it out as records, writing puts records
- * back as bits. A cursor is a position and a context. It goes in and comes back; nothing else is
- * kept between calls, so any number of threads may call at once.
+ * byte; bits from n on are never looked at. A capture has, with its direction and its profile, one
+ * reading: a list of items, frames and gaps, that lie end to end. Paging hands it out as records,
+ * writing puts records back as bits. A cursor is a position and a context. It goes in and comes
+ * back; nothing else is kept between calls, so any number of threads may call at once.
  *
  * To harvest a capture completely, go on from page to page until the position is n. The pages
  * joined are the reading, none of it lost or repeated, whatever the counts and the buffers:
@@ -32,7 +32,7 @@
 #include <stddef.h>
 #include <stdint.h>
 
-#define BELLROPE_VERSION "0.2"
+#define BELLROPE_VERSION "0.3"
 
 #ifdef __cplusplus
 extern "C" {
@@ -95,14 +95,16 @@ enum bellrope_offset {
 	BELLROPE_AT_D = 12
 };
 
-/* The bits of a verdict. 0: each CRC is right, or the kind has none (2 to 4). Kinds 1, 7, 8 and
- * mode 5,90 have CRC1 alone. */
+/* The bits of a verdict. 0: each CRC is right, or the kind has none (2 to 4). Kinds 1, 5, 7, 8 and
+ * mode 5,90 have CRC1 alone, kind 5 where its class carries it by the profile. Unchecked is not
+ * right: a flipped class bit can turn a checked frame into an unchecked one. */
 enum bellrope_verdict {
 	BELLROPE_WRONG = 0x0f, /* bits 3..0 are set where CRC4..CRC1 is wrong */
 	BELLROPE_MODE = 0x30,  /* the mode that a kind 6 was checked by, its own or the context's;
 	                          other kinds have none of these */
 	BELLROPE_MODE_475 = 0x10, BELLROPE_MODE_515 = 0x20, BELLROPE_MODE_590 = 0x30,
-	BELLROPE_UNCHECKED = 0x80 /* kind 5, and kind 6 without a mode; then no other bit is set */
+	BELLROPE_UNCHECKED = 0x80 /* kind 5 of a class that carries no CRC, and kind 6 without a
+	                             mode; then no other bit is set */
 };
 
 typedef struct {
@@ -118,28 +120,32 @@ typedef struct {
  * and the buffer holds; the rest of it stands.
  *   capture, n, direction   what is read: bytes, how many bits of them (at most 8 * capture_len),
  *                           and which way they were sent
+ *   profile                 which classes of No_Speech carry CRC1 in D52..D54: bit k (0 is the
+ *                           lowest) for class k, which is D8..D10 as a number, D8 on top (TS 48.060
+ *                           says which do); 0: none. Keep it the same throughout a harvest
  *   position, context       the cursor to go on from
  *   most                    how many items at most, at least 1; UINT64_MAX for all that fit
  *   buffer                  where the records go
  * Before n a page that is not refused has at least one item; at n it has none. Here and in writing,
  * pointers must be valid even where the length is 0. */
 bellrope_answer bellrope_page(const uint8_t *capture, size_t capture_len, uint64_t n,
-                              uint64_t direction, uint64_t position, uint64_t context,
-                              uint64_t most, uint8_t *buffer, size_t buffer_len);
+                              uint64_t direction, uint8_t profile, uint64_t position,
+                              uint64_t context, uint64_t most, uint8_t *buffer,
+                              size_t buffer_len);
 
 /* Writing: puts body and tail of each frame into the buffer, the first from the cursor's position
  * on, each next behind the last; other bits stand.
  *   records                 records of frames as paging gives them, end to end. A gap is refused:
  *                           write what stands between gaps, call by call
- *   direction               which way the frames are sent
+ *   direction, profile      which way the frames are sent, and by which profile their verdicts are
  *   position, context       the cursor that the first record was paged from; behind a gap that is
  *                           its start, and context 0
  *   buffer                  where the bits go
  * After 1, 2 and 3 each record in turn is judged by 5, 6 and 4, all before the first bit is put;
  * the first that fails decides. */
 bellrope_answer bellrope_write(const uint8_t *records, size_t records_len, uint64_t direction,
-                               uint64_t position, uint64_t context, uint8_t *buffer,
-                               size_t buffer_len);
+                               uint8_t profile, uint64_t position, uint64_t context,
+                               uint8_t *buffer, size_t buffer_len);
 
 /* From here on: the same two calls over structs, and readers of what they answer. All is inline.
  * Where a length is 0, the pointer may be NULL. */
@@ -150,6 +156,7 @@ typedef struct {
 	size_t length;        /* of them */
 	uint64_t n;           /* how many bits of them are read, at most 8 * length */
 	uint64_t direction;   /* which way they were sent (enum bellrope_direction) */
+	uint8_t profile;      /* which classes of No_Speech carry a CRC, see paging; 0: none */
 } bellrope_capture;
 
 /* What is written to. Make it by bellrope_buffer_of. */
@@ -157,6 +164,7 @@ typedef struct {
 	uint8_t *bytes;     /* where the bits go */
 	size_t length;      /* of them */
 	uint64_t direction; /* which way the frames are sent */
+	uint8_t profile;    /* by which their verdicts are */
 } bellrope_buffer;
 
 /* Where to go on. bellrope_begin is the first of a capture; each later one is what a call left. */
@@ -172,6 +180,7 @@ static inline bellrope_capture bellrope_capture_of(const uint8_t *bytes, size_t 
 	capture.length = length;
 	capture.n = n;
 	capture.direction = direction;
+	capture.profile = 0;
 	return capture;
 }
 
@@ -181,6 +190,7 @@ static inline bellrope_buffer bellrope_buffer_of(uint8_t *bytes, size_t length,
 	buffer.bytes = bytes;
 	buffer.length = length;
 	buffer.direction = direction;
+	buffer.profile = 0;
 	return buffer;
 }
 
@@ -205,8 +215,9 @@ static inline bellrope_answer bellrope_next(bellrope_capture capture, bellrope_c
                                             uint64_t most, uint8_t *buffer, size_t length) {
 	uint8_t none = 0;
 	return bellrope_moved(bellrope_page(capture.length ? capture.bytes : &none, capture.length,
-	                                    capture.n, capture.direction, cursor->position,
-	                                    cursor->context, most, length ? buffer : &none, length),
+	                                    capture.n, capture.direction, capture.profile,
+	                                    cursor->position, cursor->context, most,
+	                                    length ? buffer : &none, length),
 	                      cursor);
 }
 
@@ -215,7 +226,7 @@ static inline bellrope_answer bellrope_put(bellrope_buffer buffer, bellrope_curs
                                            const uint8_t *records, size_t length) {
 	uint8_t none = 0;
 	return bellrope_moved(bellrope_write(length ? records : &none, length, buffer.direction,
-	                                     cursor->position, cursor->context,
+	                                     buffer.profile, cursor->position, cursor->context,
 	                                     buffer.length ? buffer.bytes : &none, buffer.length),
 	                      cursor);
 }

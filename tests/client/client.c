@@ -1,10 +1,10 @@
 /* The client of the comparison: reads requests on standard input, makes each call with the lent bytes flush against a protected page, and writes the
  * answer, what changed that must stand, and the whole buffer. It judges nothing else.
  *
- * A request is ten 64-bit numbers (call, placement, guard, input length, n, direction, position, context, most, buffer length), then the input and the
- * buffer as it is before the call. Call 1 is paging, and its input the capture. Call 2 is writing, and its input the records; it takes neither n nor most,
- * which are 0. Other numbers are free for later calls. Placement: bit 0 set puts the input at the end of its pages, bit 1 the buffer; clear, at their
- * start. A reply is the six numbers of the answer, a number of flags, and the buffer. */
+ * A request is eleven 64-bit numbers (call, placement, guard, input length, n, direction, profile, position, context, most, buffer length), then the
+ * input and the buffer as it is before the call. Call 1 is paging, and its input the capture. Call 2 is writing, and its input the records; it takes
+ * neither n nor most, which are 0. Other numbers are free for later calls. Placement: bit 0 set puts the input at the end of its pages, bit 1 the buffer;
+ * clear, at their start. A reply is the six numbers of the answer, a number of flags, and the buffer. */
 #define _GNU_SOURCE
 #include "bellrope.h"
 
@@ -81,21 +81,27 @@ static void give(const void *from, size_t len) {
 }
 
 /* The request is known: the call, what it takes, and lengths that there is room for. */
-static int known(const uint64_t r[10]) {
-	if (r[3] > LARGEST || r[9] > LARGEST) return 0;
-	return r[0] == CALL_PAGE || (r[0] == CALL_WRITE && r[4] == 0 && r[8] == 0);
+static int known(const uint64_t r[11]) {
+	if (r[3] > LARGEST || r[6] > UINT8_MAX || r[10] > LARGEST) return 0;
+	return r[0] == CALL_PAGE || (r[0] == CALL_WRITE && r[4] == 0 && r[9] == 0);
 }
 
-static bellrope_answer call(const uint64_t r[10], const arena *in, const arena *b) {
-	uint64_t n = r[4], direction = r[5], position = r[6], context = r[7], most = r[8];
-	if (r[0] == CALL_PAGE) return bellrope_page(in->lent, in->len, n, direction, position, context, most, b->lent, b->len);
-	return bellrope_write(in->lent, in->len, direction, position, context, b->lent, b->len);
+/* The calls as they are made here: only the low byte of a profile's register is the profile, and the rest holds ones, as a caller may leave it. */
+typedef bellrope_answer paging(const uint8_t *, size_t, uint64_t, uint64_t, uint64_t, uint64_t, uint64_t, uint64_t, uint8_t *, size_t);
+typedef bellrope_answer writing(const uint8_t *, size_t, uint64_t, uint64_t, uint64_t, uint64_t, uint8_t *, size_t);
+
+static bellrope_answer call(const uint64_t r[11], const arena *in, const arena *b) {
+	uint64_t n = r[4], direction = r[5], profile = r[6] | ~(uint64_t)UINT8_MAX, position = r[7], context = r[8], most = r[9];
+	paging *page = (paging *)(void (*)(void))bellrope_page;
+	writing *write = (writing *)(void (*)(void))bellrope_write;
+	if (r[0] == CALL_PAGE) return page(in->lent, in->len, n, direction, profile, position, context, most, b->lent, b->len);
+	return write(in->lent, in->len, direction, profile, position, context, b->lent, b->len);
 }
 
 int main(void) {
 	static uint8_t input[LARGEST], buffer[LARGEST];
 	arena inputs[2], buffers[2];
-	uint64_t r[10];
+	uint64_t r[11];
 	page_size = (size_t)sysconf(_SC_PAGESIZE);
 	for (int i = 0; i < 2; i++) {
 		arena_make(&inputs[i], i);
@@ -108,7 +114,7 @@ int main(void) {
 		}
 		uint64_t placement = r[1];
 		uint8_t guard = (uint8_t)r[2];
-		size_t input_len = r[3], buffer_len = r[9];
+		size_t input_len = r[3], buffer_len = r[10];
 		arena *in = &inputs[placement & 1], *b = &buffers[placement >> 1 & 1];
 		if ((input_len && !take(input, input_len)) || (buffer_len && !take(buffer, buffer_len))) return 2;
 		arena_lend(in, input, input_len, guard);

@@ -13,7 +13,7 @@ static const uint8_t capture[21] = {0xff, 0x00, 0x88, 0x44, 0x80, 0x80, 0x80, 0x
 enum { N = 168, DOWN = BELLROPE_DOWNLINK };
 
 static bellrope_answer page(uint64_t n, uint64_t direction, uint64_t position, uint64_t context, uint64_t most, uint8_t *buffer, size_t len) {
-	return bellrope_page(capture, sizeof capture, n, direction, position, context, most, buffer, len);
+	return bellrope_page(capture, sizeof capture, n, direction, 0, position, context, most, buffer, len);
 }
 
 int main(void) {
@@ -42,12 +42,12 @@ int main(void) {
 
 	/* Refusals of writing, and the frame written back. */
 	memset(bits, 0x55, sizeof bits);
-	HOLD(is(bellrope_write(gap, 9, DOWN, 0, 0, bits, 21), BELLROPE_UNSOUND, 0, 0, 0, 0, 0));
-	HOLD(is(bellrope_write(frame, len, DOWN, 0, 0, bits, 21), BELLROPE_NOT_DUE, 0, 0, 0, 0, 0));
-	HOLD(is(bellrope_write(frame, len + 1, DOWN, 8, 0, bits, 21), BELLROPE_UNSOUND, 1, 0, 0, 8, 0));
-	HOLD(is(bellrope_write(frame, len, DOWN, 8, 0, bits, 20), BELLROPE_NO_ROOM, 0, 0, 0, 8, 0));
+	HOLD(is(bellrope_write(gap, 9, DOWN, 0, 0, 0, bits, 21), BELLROPE_UNSOUND, 0, 0, 0, 0, 0));
+	HOLD(is(bellrope_write(frame, len, DOWN, 0, 0, 0, bits, 21), BELLROPE_NOT_DUE, 0, 0, 0, 0, 0));
+	HOLD(is(bellrope_write(frame, len + 1, DOWN, 0, 8, 0, bits, 21), BELLROPE_UNSOUND, 1, 0, 0, 8, 0));
+	HOLD(is(bellrope_write(frame, len, DOWN, 0, 8, 0, bits, 20), BELLROPE_NO_ROOM, 0, 0, 0, 8, 0));
 	HOLD(memcmp(bits, still, 21) == 0);
-	HOLD(is(bellrope_write(frame, len, DOWN, 8, 0, bits, 21), BELLROPE_TAKEN, 0, 1, 0, N, BELLROPE_AFTER_HR));
+	HOLD(is(bellrope_write(frame, len, DOWN, 0, 8, 0, bits, 21), BELLROPE_TAKEN, 0, 1, 0, N, BELLROPE_AFTER_HR));
 	HOLD(bits[0] == 0x55 && memcmp(bits + 1, capture + 1, 20) == 0);
 	return failures != 0;
 }

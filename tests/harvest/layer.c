@@ -8,19 +8,19 @@
 #ifdef __cplusplus
 extern "C" {
 #endif
-bellrope_answer __real_bellrope_page(const uint8_t *, size_t, uint64_t, uint64_t, uint64_t, uint64_t, uint64_t, uint8_t *, size_t);
-bellrope_answer __real_bellrope_write(const uint8_t *, size_t, uint64_t, uint64_t, uint64_t, uint8_t *, size_t);
+bellrope_answer __real_bellrope_page(const uint8_t *, size_t, uint64_t, uint64_t, uint8_t, uint64_t, uint64_t, uint64_t, uint8_t *, size_t);
+bellrope_answer __real_bellrope_write(const uint8_t *, size_t, uint64_t, uint8_t, uint64_t, uint64_t, uint8_t *, size_t);
 
-bellrope_answer __wrap_bellrope_page(const uint8_t *capture, size_t capture_len, uint64_t n, uint64_t direction, uint64_t position, uint64_t context,
-                                     uint64_t most, uint8_t *buffer, size_t buffer_len) {
+bellrope_answer __wrap_bellrope_page(const uint8_t *capture, size_t capture_len, uint64_t n, uint64_t direction, uint8_t profile, uint64_t position,
+                                     uint64_t context, uint64_t most, uint8_t *buffer, size_t buffer_len) {
 	HOLD(capture != NULL && buffer != NULL);
-	return __real_bellrope_page(capture, capture_len, n, direction, position, context, most, buffer, buffer_len);
+	return __real_bellrope_page(capture, capture_len, n, direction, profile, position, context, most, buffer, buffer_len);
 }
 
-bellrope_answer __wrap_bellrope_write(const uint8_t *records, size_t records_len, uint64_t direction, uint64_t position, uint64_t context, uint8_t *buffer,
-                                      size_t buffer_len) {
+bellrope_answer __wrap_bellrope_write(const uint8_t *records, size_t records_len, uint64_t direction, uint8_t profile, uint64_t position,
+                                      uint64_t context, uint8_t *buffer, size_t buffer_len) {
 	HOLD(records != NULL && buffer != NULL);
-	return __real_bellrope_write(records, records_len, direction, position, context, buffer, buffer_len);
+	return __real_bellrope_write(records, records_len, direction, profile, position, context, buffer, buffer_len);
 }
 #ifdef __cplusplus
 }
@@ -192,6 +192,29 @@ static void writing(void) {
 	HOLD(is(bellrope_put(bellrope_buffer_of(NULL, 0, 1), &cursor, page + 9, 26), BELLROPE_NO_ROOM, 0, 0, 0, 0, 0) && stands(cursor, 0, 0));
 }
 
+/* A silence frame of class 4 whose CRC is wrong: unchecked by profile 0, and by any that leaves class 4 out; else in context 0 no frame at all. What was
+ * paged by a profile is written by that profile alone. */
+static void profiles(void) {
+	uint8_t wrong[20] = {0x00, 0x80, 0xc2, 0x40, 0x80, 0x80, 0x80, 0x80, 0x80, 0xa0, 0x80, 0x80, 0x80, 0x80, 0x80, 0x80, 0x80, 0x80, 0x80, 0x83};
+	uint8_t page[40], bits[20];
+	for (unsigned profile = 0; profile < 256; profile++) {
+		bellrope_capture capture = bellrope_capture_of(wrong, sizeof wrong, 160, BELLROPE_DOWNLINK);
+		bellrope_buffer buffer = bellrope_buffer_of(bits, sizeof bits, BELLROPE_DOWNLINK);
+		bellrope_cursor cursor = bellrope_begin(), run = {0, BELLROPE_AFTER_AMR};
+		int checked = profile >> 4 & 1;
+		HOLD(capture.profile == 0 && buffer.profile == 0);
+		capture.profile = (uint8_t)profile;
+		HOLD(is(bellrope_next(capture, &cursor, 1, page, 40), BELLROPE_TAKEN, 0, 1, checked ? 9 : 28, 160, checked ? 0 : 2));
+		HOLD(page[0] == (checked ? BELLROPE_GAP : BELLROPE_NO_SPEECH));
+		HOLD(bellrope_next(capture, &run, 1, page, 40).bytes == 28 && page[BELLROPE_AT_VERDICT] == (checked ? 1 : BELLROPE_UNCHECKED));
+		for (unsigned other = 0; other < 256; other++) {
+			bellrope_cursor back = {0, BELLROPE_AFTER_AMR};
+			buffer.profile = (uint8_t)other;
+			HOLD(bellrope_put(buffer, &back, page, 28).number == ((other >> 4 & 1) == (unsigned)checked ? BELLROPE_TAKEN : BELLROPE_NOT_DUE));
+		}
+	}
+}
+
 int main(void) {
 	kinds();
 	numbers();
@@ -200,5 +223,6 @@ int main(void) {
 	d_bits();
 	walks();
 	writing();
+	profiles();
 	return failures != 0;
 }

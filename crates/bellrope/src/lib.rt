@@ -14,6 +14,7 @@ pub extern "C" fn bellrope_page(
     capture: &[u8],
     n: u64,
     direction: u64,
+    profile: u8,
     position: u64,
     context: u64,
     most: u64,
@@ -22,7 +23,7 @@ pub extern "C" fn bellrope_page(
     ensures { λ r.
         ⌜ PageCall
         (now (capture .entry))
-        (record { n = n; terms = record { direction = direction }; cursor = record { position = position; context = context }; most = most })
+        (record { n = n; terms = record { direction = direction; profile = profile }; cursor = record { position = position; context = context }; most = most })
         (now (buffer .entry))
         r
         (now (buffer .exit)) ⌝ }
@@ -33,6 +34,7 @@ pub extern "C" fn bellrope_page(
             n: n,
             terms: TermNumbers {
                 direction: direction,
+                profile: profile,
             },
             cursor: CursorNumbers {
                 position: position,
@@ -49,6 +51,7 @@ pub extern "C" fn bellrope_page(
 pub extern "C" fn bellrope_write(
     records: &[u8],
     direction: u64,
+    profile: u8,
     position: u64,
     context: u64,
     buffer: &mut [u8],
@@ -56,7 +59,7 @@ pub extern "C" fn bellrope_write(
     ensures { λ r.
         ⌜ WriteCall
         (now (records .entry))
-        (record { terms = record { direction = direction }; cursor = record { position = position; context = context } })
+        (record { terms = record { direction = direction; profile = profile }; cursor = record { position = position; context = context } })
         (now (buffer .entry))
         r
         (now (buffer .exit)) ⌝ }
@@ -66,6 +69,7 @@ pub extern "C" fn bellrope_write(
         WriteRequest {
             terms: TermNumbers {
                 direction: direction,
+                profile: profile,
             },
             cursor: CursorNumbers {
                 position: position,

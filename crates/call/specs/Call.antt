@@ -18,7 +18,7 @@ directionOf d = cond (eqb d 0) Uplink Downlink
 
 -- what is agreed of a capture, by its numbers
 abbrev pub termsBy : TermNumbers → Terms
-termsBy t = record { direction = directionOf (t .direction) }
+termsBy t = record { direction = directionOf (t .direction); profile = t .profile }
 
 -- a cursor by its numbers
 abbrev pub cursorBy : CursorNumbers → Cursor Context

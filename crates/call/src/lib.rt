@@ -4,9 +4,10 @@ ghost use Rattle.call.specs.Call.{termsBy, next, refusedAt};
 use channel::Direction;
 use channel::Terms;
 
-// What is agreed of a capture besides its bits: its direction.
+// What is agreed of a capture besides its bits: its direction and its profile, of which every byte is one.
 pub struct TermNumbers {
     pub direction: u64,
+    pub profile: u8,
 }
 
 // A cursor: position and context.
@@ -59,10 +60,12 @@ pub fn terms_of(t: TermNumbers) -> Terms
     if t.direction == 0 {
         Terms {
             direction: Direction::Uplink,
+            profile: t.profile,
         }
     } else {
         Terms {
             direction: Direction::Downlink,
+            profile: t.profile,
         }
     }
 }

@@ -8,14 +8,15 @@ use native.Mathlib.Nat.{zero-add}
 use borrow.Author.Tests.{eqb-true}
 use lib.Dec.{eqb, ltb}
 use Rattle.bits.specs.Bit.{toN}
+use Rattle.channel.specs.declared.Terms.{Terms}
 use Rattle.channel.specs.declared.Kind.{Kind}
 use Rattle.channel.specs.declared.Kind.the-variants.{Speech, Data, Om, Configuration, NoSpeech, Lower, Amr670, Amr740}
 use Rattle.channel.specs.Kinds.{bodyOf}
 use Rattle.channel.specs.Places.{dPlaces}
 use Rattle.channel.specs.Coding.{Word, wordAt, bitsAt, all}
 use Rattle.channel.specs.Crc.{right, leaves111}
-use Rattle.channel.specs.Checks.{checks, checksLower}
-use Rattle.channel.specs.Verdict.{Context, modeOf, wrongs, verdictOf, startsBy, starts, follows, allowed, afterOf}
+use Rattle.channel.specs.Checks.{checksLower, checksSilence, checks}
+use Rattle.channel.specs.Verdict.{Context, modeOf, carries, wrongs, verdictOf, startsBy, starts, follows, allowed, afterOf}
 use Rattle.channel.specs.Control.{control, extended}
 use Rattle.channel.proofs.BoolLaws.{and-l, and-r}
 
@@ -71,17 +72,25 @@ control-cut g k = said-cut 0 g k .1
 pub extended-cut : (g : Word) (k : Kind) → extended (wordAt g 0 (bodyOf k)) k ≡ extended g k
 extended-cut g k = said-cut 0 g k .2
 
+-- the check of a kind 5, where it carries one, lies in its body
+silence-inside : (b : Bool) → inside 158 (cond b checksSilence []) ≡ true
+unfolding dPlaces
+silence-inside false = refl
+silence-inside true = refl
+
 -- the verdict
-pub verdict-cut : (x : Context) (g : Word) (k : Kind) → verdictOf x (wordAt g 0 (bodyOf k)) k ≡ verdictOf x g k
+pub verdict-cut : (t : Terms) (x : Context) (g : Word) (k : Kind) → verdictOf t x (wordAt g 0 (bodyOf k)) k ≡ verdictOf t x g k
 unfolding verdictOf checks dPlaces
-verdict-cut x g Speech = ap (λ (n : ℕ). 128 * 0 + 16 * 0 + n) (wrongs-cut g 158 (checks 0 Speech) refl)
-verdict-cut x g Data = refl
-verdict-cut x g Om = refl
-verdict-cut x g Configuration = refl
-verdict-cut x g NoSpeech = refl
-verdict-cut x g Lower = ap (λ (n : ℕ). 128 * toN (eqb (modeOf x g Lower) 0) + 16 * modeOf x g Lower + n) (wrongs-cut g 159 (checksLower (modeOf x g Lower)) (lower-inside (modeOf x g Lower)))
-verdict-cut x g Amr670 = ap (λ (n : ℕ). 128 * 0 + 16 * 0 + n) (wrongs-cut g 160 (checks 0 Amr670) refl)
-verdict-cut x g Amr740 = ap (λ (n : ℕ). 128 * 0 + 16 * 0 + n) (wrongs-cut g 160 (checks 0 Amr740) refl)
+verdict-cut t x g Speech = ap (λ (n : ℕ). 128 * 0 + 16 * 0 + n) (wrongs-cut g 158 (checks 0 Speech) refl)
+verdict-cut t x g Data = refl
+verdict-cut t x g Om = refl
+verdict-cut t x g Configuration = refl
+verdict-cut t x g NoSpeech =
+    ap (λ (n : ℕ). 128 * toN (not (carries t g NoSpeech)) + 16 * 0 + n)
+    (wrongs-cut g 158 (cond (carries t g NoSpeech) checksSilence []) (silence-inside (carries t g NoSpeech)))
+verdict-cut t x g Lower = ap (λ (n : ℕ). 128 * toN (eqb (modeOf x g Lower) 0) + 16 * modeOf x g Lower + n) (wrongs-cut g 159 (checksLower (modeOf x g Lower)) (lower-inside (modeOf x g Lower)))
+verdict-cut t x g Amr670 = ap (λ (n : ℕ). 128 * 0 + 16 * 0 + n) (wrongs-cut g 160 (checks 0 Amr670) refl)
+verdict-cut t x g Amr740 = ap (λ (n : ℕ). 128 * 0 + 16 * 0 + n) (wrongs-cut g 160 (checks 0 Amr740) refl)
 
 -- the bits at the D places
 pub d-cut : (g : Word) (k : Kind) → bitsAt (wordAt g 0 (bodyOf k)) (dPlaces k) ≡ bitsAt g (dPlaces k)
@@ -96,10 +105,11 @@ d-cut g Amr670 = bits-cut g 160 (dPlaces Amr670) refl
 d-cut g Amr740 = bits-cut g 160 (dPlaces Amr740) refl
 
 -- rule 2, by the verdict that the code has
-pub allowed-by : (x : Context) (g : Word) (k : Kind) (v : ℕ) → v ≡ verdictOf x g k → cond (eqb x 0) (startsBy k v) (follows x k) ≡ allowed x (wordAt g 0 (bodyOf k)) k
+pub allowed-by : (t : Terms) (x : Context) (g : Word) (k : Kind) (v : ℕ) → v ≡ verdictOf t x g k
+    → cond (eqb x 0) (startsBy k v) (follows x k) ≡ allowed t x (wordAt g 0 (bodyOf k)) k
 unfolding starts
-allowed-by x g k v e = go (eqb x 0) refl
+allowed-by t x g k v e = go (eqb x 0) refl
   where
-    go : (b : Bool) → eqb x 0 ≡ b → cond b (startsBy k v) (follows x k) ≡ cond b (startsBy k (verdictOf 0 (wordAt g 0 (bodyOf k)) k)) (follows x k)
+    go : (b : Bool) → eqb x 0 ≡ b → cond b (startsBy k v) (follows x k) ≡ cond b (startsBy k (verdictOf t 0 (wordAt g 0 (bodyOf k)) k)) (follows x k)
     go false q = refl
-    go true q = ap (startsBy k) (e ∙ ap (λ (y : ℕ). verdictOf y g k) (eqb-true x 0 q) ∙ sym (verdict-cut 0 g k))
+    go true q = ap (startsBy k) (e ∙ ap (λ (y : ℕ). verdictOf t y g k) (eqb-true x 0 q) ∙ sym (verdict-cut t 0 g k))

@@ -13,6 +13,7 @@ use Rattle.reading.specs.Reading.{Sound}
 use Rattle.channel.specs.declared.Direction.{Direction}
 use Rattle.channel.specs.declared.Pattern.{Pattern}
 use Rattle.channel.specs.declared.Pattern.the-variants.{Hr, Low, P670, P740}
+use Rattle.channel.specs.declared.Terms.{Terms}
 use Rattle.channel.specs.declared.Kind.{Kind}
 use Rattle.channel.specs.declared.Kind.the-variants.{Speech, Data, Om, Configuration, NoSpeech, Lower, Amr670, Amr740}
 use Rattle.channel.specs.Kinds.{kinds, kindNo, patternOf, bodyOf, leastTail}
@@ -89,14 +90,14 @@ abbrev pub tailAt : Capture → ℕ → Kind → ℕ
 tailAt w p k = tailOf (w .bits) (w .n - (p + bodyOf k)) (p + bodyOf k)
 
 abbrev pub frameAt : Capture → ℕ → ℕ → Kind → Frame
-frameAt w x p k = record { kind = k; start = p; body = bodyAt w p k; tail = tailAt w p k; verdict = verdictOf x (bodyAt w p k) k }
+frameAt w x p k = record { kind = k; start = p; body = bodyAt w p k; tail = tailAt w p k; verdict = verdictOf (w .terms) x (bodyAt w p k) k }
 
 abbrev pub dueAt : Capture → ℕ → ℕ → Kind → Bool
 dueAt w x p k =
     leb (p + bodyOf k) (w .n)
     && isBody (w .terms .direction) (bodyAt w p k) k
     && leb (leastTail (w .terms .direction) k) (tailAt w p k)
-    && allowed x (bodyAt w p k) k
+    && allowed (w .terms) x (bodyAt w p k) k
 
 module _ (w : Capture) (x : Context) (p : ℕ) where
   -- what the test finds is due
@@ -127,8 +128,8 @@ module _ (w : Capture) (x : Context) (p : ℕ) where
       t : tailAt w p (f .kind) ≡ f .tail
       t = tail-one w (p + bodyOf (f .kind)) (tailAt w p (f .kind)) (f .tail) (tail-whole w (p + bodyOf (f .kind)) (s .before)) (s .tail)
 
-      v : verdictOf x (bodyAt w p (f .kind)) (f .kind) ≡ f .verdict
-      v = ap (λ (g : Word). verdictOf x g (f .kind)) (sym (s .bits)) ∙ sym (h .judged)
+      v : verdictOf (w .terms) x (bodyAt w p (f .kind)) (f .kind) ≡ f .verdict
+      v = ap (λ (g : Word). verdictOf (w .terms) x g (f .kind)) (sym (s .bits)) ∙ sym (h .judged)
 
       passes : dueAt w x p (f .kind) ≡ true
       passes =
@@ -136,7 +137,7 @@ module _ (w : Capture) (x : Context) (p : ℕ) where
           (and-both _ _
           (and-both _ _ (le-leb (p + bodyOf (f .kind)) (w .n) (s .before)) (subst (λ (g : Word). isBody (w .terms .direction) g (f .kind) ≡ true) (s .bits) (s .holds)))
           (le-leb (leastTail (w .terms .direction) (f .kind)) (tailAt w p (f .kind)) (omega (arith, t, s .least))))
-          (subst (λ (g : Word). allowed x g (f .kind) ≡ true) (s .bits) (h .allows))
+          (subst (λ (g : Word). allowed (w .terms) x g (f .kind) ≡ true) (s .bits) (h .allows))
 
       same : frameAt w x p (f .kind) ≡ f
       same i = record { kind = f .kind; start = sym (s .at) i; body = sym (s .bits) i; tail = t i; verdict = v i }
@@ -233,15 +234,15 @@ body-high Amr670 = omega arith
 body-high Amr740 = omega arith
 
 -- a kind 8 never starts a run
-pub no-740 : (g : Word) → starts g Amr740 ≡ true → ⊥
+pub no-740 : (t : Terms) (g : Word) → starts t g Amr740 ≡ true → ⊥
 unfolding starts
-no-740 g h = let z : _≡_ {A = ℕ} 0 1 = cc in omega arith
+no-740 t g h = let z : _≡_ {A = ℕ} 0 1 = cc in omega arith
 
 -- what starts a run is allowed in every context
-pub starts-allowed : (x : Context) (g : Word) (k : Kind) → allowed 0 g k ≡ true → allowed x g k ≡ true
-starts-allowed x g k h = go (eqb x 0) refl k h
+pub starts-allowed : (t : Terms) (x : Context) (g : Word) (k : Kind) → allowed t 0 g k ≡ true → allowed t x g k ≡ true
+starts-allowed t x g k h = go (eqb x 0) refl k h
   where
-    go : (b : Bool) → eqb x 0 ≡ b → (k : Kind) → starts g k ≡ true → cond b (starts g k) (not b && cond (eqb (kindNo k) 8) (leb 2 x) true) ≡ true
+    go : (b : Bool) → eqb x 0 ≡ b → (k : Kind) → starts t g k ≡ true → cond b (starts t g k) (not b && cond (eqb (kindNo k) 8) (leb 2 x) true) ≡ true
     go true e k h = h
     go false e Speech h = refl
     go false e Data h = refl
@@ -250,7 +251,7 @@ starts-allowed x g k h = go (eqb x 0) refl k h
     go false e NoSpeech h = refl
     go false e Lower h = refl
     go false e Amr670 h = refl
-    go false e Amr740 h = absurd (no-740 g h)
+    go false e Amr740 h = absurd (no-740 t g h)
 
 -- a frame that stands does so whatever its verdict
 module _ (w : Capture) (p : ℕ) (f : Frame) (v : ℕ) where
@@ -271,6 +272,6 @@ sound w =
       within = λ x p f h. omega (arith, h .stands .at, h .stands .tail .within);
       starts-due =
           λ x p f h.
-          let v : ℕ = verdictOf x (f .body) (f .kind) in
-          (judgedAs w p f v, record { stands = stands-judged w p f v (h .stands); allows = starts-allowed x (f .body) (f .kind) (h .allows); judged = refl });
+          let v : ℕ = verdictOf (w .terms) x (f .body) (f .kind) in
+          (judgedAs w p f v, record { stands = stands-judged w p f v (h .stands); allows = starts-allowed (w .terms) x (f .body) (f .kind) (h .allows); judged = refl });
     }

@@ -6,4 +6,5 @@ pub mod ExamplesHold
 pub mod ChannelLaws
 pub mod DLaws
 pub mod CutLaws
+pub mod ProfileLaws
 pub mod UnseenLaws

@@ -1,4 +1,4 @@
--- What each CRC covers (document 01, "CRC" and "Mode of kind 6"; TS 48.061, 5.2.4.1.1 and 5.2.4.2.2 to 5.2.4.2.4).
+-- What each CRC covers (document 01, "CRC" and "Mode of kind 6"; document 02, Ask 1; TS 48.061, 5.2.4.1.1 and 5.2.4.2.1 to 5.2.4.2.4).
 -- A check is the list of the places that a CRC covers, in listed order, and then the CRC's own three. Assumes nothing.
 use mathlib.Core.Bool.{cond}
 use mathlib.Core.List.{List, [], _∷_, _++_, map}
@@ -56,7 +56,11 @@ checks590 = (cPlaces Low ++ s s590 (upto 1 17 ++ upto 27 34 ++ upto 48 51) ++ d 
 abbrev pub checksLower : ℕ → List (List ℕ)
 checksLower mode = getD ([] ∷ checks475 ∷ checks515 ∷ checks590 ∷ []) mode []
 
--- the checks of a kind, CRC1 first; the mode is that of a kind 6
+-- kind 5, of a class that carries it: CRC1 (D52) over C1..C5, D1..D51
+abbrev pub checksSilence : List (List ℕ)
+checksSilence = (cPlaces Low ++ d NoSpeech (upto 1 51 ++ upto 52 54)) ∷ []
+
+-- the checks of a kind whatever the profile, CRC1 first; the mode is that of a kind 6
 unfoldable pub checks : ℕ → Kind → List (List ℕ)
 checks mode Speech = (d Speech (upto 1 44) ++ crcPlaces) ∷ []
 checks mode Data = []

@@ -1,4 +1,4 @@
--- P1 to P12 of document 01, "Examples with numbers", as one table.
+-- P1 to P12 of document 01, "Examples with numbers", and silence frames by their class (document 02, Ask 1), as one table.
 -- Assumes nothing.
 use mathlib.Core.Path.{_≡_}
 use mathlib.Core.Bool.{Bool, true, false, cond}
@@ -13,7 +13,7 @@ use Rattle.channel.specs.Kinds.{kindNo}
 use Rattle.channel.specs.Coding.{odd}
 use Rattle.channel.specs.Crc.{leaves111}
 use Rattle.channel.specs.Control.{control, extended}
-use Rattle.channel.specs.Frames.{Frame, termsOf, captureOf, rules, beginning}
+use Rattle.channel.specs.Frames.{Capture, Frame, termsOf, captureOf, rules, beginning}
 
 abbrev pub H : List ℕ
 H = 0x00 ∷ 0x88 ∷ 0x44 ∷ replicate 6 0x80 ++ (0xF0 ∷ replicate 9 0x80) ++ (0xBF ∷ [])
@@ -27,11 +27,22 @@ S =
     0x00 ∷ 0x80 ∷ 0x90 ∷ 0x80 ∷ 0x80 ∷ 0x00 ∷ 0x80 ∷ 0x00 ∷ 0x80 ∷ 0x60
     ∷ 0x80 ∷ 0x00 ∷ 0x80 ∷ 0x00 ∷ 0x80 ∷ 0x00 ∷ 0x80 ∷ 0x00 ∷ 0x80 ∷ 0x00 ∷ []
 
--- what an example asks: the CRC of covered bits, the parity bit of some bits, or the reading of the first n bits of some bytes
+-- a No_Speech frame of class 4 in downlink, D8 alone being one of D1..D51, by its tenth octet: D52..D54 stand in bits 2 to 5
+abbrev pub silence : ℕ → List ℕ
+silence tenth = 0x00 ∷ 0x80 ∷ 0xC2 ∷ 0x40 ∷ replicate 5 0x80 ++ (tenth ∷ replicate 9 0x80) ++ (0x83 ∷ [])
+
+abbrev pub right4 : List ℕ
+right4 = silence 0xA8
+
+abbrev pub wrong4 : List ℕ
+wrong4 = silence 0xA0
+
+-- what an example asks: the CRC of covered bits, the parity bit of some bits, or the reading of the first n bits of some bytes, with profile 0 or another
 pub data Question : Type 0 where
   crc : List Bool → Question
   parity : List Bool → Question
   reading : List ℕ → ℕ → Direction → Question
+  profiled : ℕ → List ℕ → ℕ → Direction → Question
 
 -- of some words those that, put behind given bits, pass a test
 abbrev pub passing : (List Bool → Bool) → List Bool → List (List Bool) → List (List ℕ)
@@ -50,11 +61,16 @@ abbrev pub line : Item Frame → List ℕ
 line (gap start length) = 0 ∷ start ∷ length ∷ []
 line (frame f) = kindNo (f .kind) ∷ f .start ∷ f .tail ∷ f .verdict ∷ control (f .body) (f .kind) ∷ extended (f .body) (f .kind) ∷ []
 
+-- the items of the reading of a capture from the beginning
+abbrev pub ReadAs : Capture → List (List ℕ) → Type 0
+ReadAs w answer = (xs : List (Item Frame)) × Reading rules w beginning xs × (map line xs ≡ answer)
+
 -- an answer is the one: of all CRCs the only right one, of all parity bits the only right one, the items of the reading from the beginning
 abbrev pub Holds : Question → List (List ℕ) → Type 0
 Holds (crc bs) answer = passing leaves111 bs threeBits ≡ answer
 Holds (parity bs) answer = passing odd bs oneBit ≡ answer
-Holds (reading s n d) answer = (xs : List (Item Frame)) × Reading rules (captureOf s n (termsOf d)) beginning xs × (map line xs ≡ answer)
+Holds (reading s n d) answer = ReadAs (captureOf s n (termsOf 0 d)) answer
+Holds (profiled profile s n d) answer = ReadAs (captureOf s n (termsOf profile d)) answer
 
 pub record Example : Type 0 where
   pub number : ℕ
@@ -83,4 +99,10 @@ table =
     ∷ record { number = 11; asks = reading Z 160 Downlink; answer = (0 ∷ 0 ∷ 160 ∷ []) ∷ [] }
     ∷ record { number = 12; asks = reading (S ++ Z) 320 Uplink; answer = (7 ∷ 0 ∷ 0 ∷ 0 ∷ 0x20 ∷ 0 ∷ []) ∷ (8 ∷ 160 ∷ 0 ∷ 1 ∷ 0 ∷ 0 ∷ []) ∷ [] }
     ∷ record { number = 12; asks = reading (S ++ Z) 320 Downlink; answer = (7 ∷ 0 ∷ 0 ∷ 0 ∷ 0x20 ∷ 0 ∷ []) ∷ (8 ∷ 160 ∷ 0 ∷ 1 ∷ 0 ∷ 0 ∷ []) ∷ [] }
+    -- Ask 1: class 4 carries a CRC, which is right; is wrong, and starts no run; is wrong, and stays in one
+    ∷ record { number = 13; asks = profiled 0b00010000 right4 160 Downlink; answer = (5 ∷ 0 ∷ 2 ∷ 0 ∷ 0x80 ∷ 0 ∷ []) ∷ [] }
+    ∷ record { number = 14; asks = profiled 0b00010000 wrong4 160 Downlink; answer = (0 ∷ 0 ∷ 160 ∷ []) ∷ [] }
+    ∷ record { number = 15; asks = profiled 0b00010000 (right4 ++ wrong4) 320 Downlink; answer = (5 ∷ 0 ∷ 2 ∷ 0 ∷ 0x80 ∷ 0 ∷ []) ∷ (5 ∷ 160 ∷ 2 ∷ 1 ∷ 0x80 ∷ 0 ∷ []) ∷ [] }
+    -- every other class does, and class 4 does not
+    ∷ record { number = 16; asks = profiled 0b11101111 wrong4 160 Downlink; answer = (5 ∷ 0 ∷ 2 ∷ 128 ∷ 0x80 ∷ 0 ∷ []) ∷ [] }
     ∷ []

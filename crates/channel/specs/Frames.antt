@@ -14,9 +14,9 @@ use Rattle.channel.specs.Kinds.{bodyOf, leastTail}
 use Rattle.channel.specs.Coding.{Word, wordAt, isBody}
 use Rattle.channel.specs.Verdict.{Context, verdictOf, allowed, afterOf}
 
--- the terms of a direction
-abbrev pub termsOf : Direction → Terms
-termsOf d = record { direction = d }
+-- the terms of a direction and a profile
+abbrev pub termsOf : ℕ → Direction → Terms
+termsOf profile d = record { direction = d; profile = profile }
 
 -- a capture: its bits, how many they are, and its terms
 pub record Capture : Type 0 where
@@ -54,8 +54,8 @@ pub record Stands (w : Capture) (p : ℕ) (f : Frame) : Type 0 where
 -- rule 2: a frame stands at p, it starts a run in context 0 or follows in any other, and its verdict is the one due in that context
 pub record Due (w : Capture) (x : Context) (p : ℕ) (f : Frame) : Type 0 where
   pub stands : Stands w p f
-  pub allows : allowed x (f .body) (f .kind) ≡ true
-  pub judged : f .verdict ≡ verdictOf x (f .body) (f .kind)
+  pub allows : allowed (w .terms) x (f .body) (f .kind) ≡ true
+  pub judged : f .verdict ≡ verdictOf (w .terms) x (f .body) (f .kind)
 
 -- the place behind a frame's tail
 abbrev pub behind : Frame → ℕ

@@ -34,9 +34,9 @@ Unsound t bytes = (f : Frame) (rest : List ℕ) → SoundAs t bytes f rest → �
 
 -- the number of a sound record at a cursor, before the end of a buffer of some bits: 6 where its start isn't the cursor's position, its verdict isn't
 -- the one due in that context, or rule 2 has no such frame there; 4 where the frame would end past the buffer; else 0
-abbrev pub soundNumber : ℕ → Cursor Context → Frame → ℕ
-soundNumber bits c f =
+abbrev pub soundNumber : Terms → ℕ → Cursor Context → Frame → ℕ
+soundNumber t bits c f =
     cond (not (eqb (f .start) (c .position))) 6
-    (cond (not (eqb (f .verdict) (verdictOf (c .context) (f .body) (f .kind)))) 6
-    (cond (not (allowed (c .context) (f .body) (f .kind))) 6
+    (cond (not (eqb (f .verdict) (verdictOf t (c .context) (f .body) (f .kind)))) 6
+    (cond (not (allowed t (c .context) (f .body) (f .kind))) 6
     (cond (ltb bits (behind f)) 4 0)))

@@ -7,10 +7,11 @@ pub enum Direction {
     Downlink,
 }
 
-// What is agreed of a capture besides its bits. It is passed by value wherever the bits are read or written, so that a term more is a change here and
-// where that term matters.
+// What is agreed of a capture besides its bits: its direction, and its profile, whose bit k, 0 the lowest, tells whether No_Speech frames of class k carry
+// a CRC (document 02, Ask 1). It is passed by value wherever the bits are read or written, so that a term more is a change here and where that term matters.
 pub struct Terms {
     pub direction: Direction,
+    pub profile: u8,
 }
 
 // The synchronisation patterns (5.2.1 to 5.2.3).

@@ -6,6 +6,7 @@ use Prim.Native.Nat.{ℕ, _+_, _<_, _≤_}
 use borrow.Author.Tests.{eq-eqb, ne-eqb, lt-ltb, le-ltb}
 use lib.Dec.{eqb}
 use Rattle.bits.specs.Bit.{bitAt}
+use Rattle.channel.specs.declared.Terms.{Terms}
 use Rattle.channel.specs.declared.Kind.{Kind}
 use Rattle.channel.specs.Kinds.{bodyOf}
 use Rattle.channel.specs.Coding.{Word, wordAt}
@@ -17,10 +18,10 @@ use Rattle.parse.specs.declared.Record.{Record}
 use Rattle.channel.specs.Sound.{soundNumber}
 use Rattle.parse.specs.Parsed.{frameBy}
 
-module _ (r : Record) (k : Kind) (c : Cursor) (bits : ℕ) where
+module _ (r : Record) (k : Kind) (terms : Terms) (c : Cursor) (bits : ℕ) where
   -- the number that is due
   abbrev the-number : ℕ
-  the-number = soundNumber bits (cursorOf c) (frameBy r k)
+  the-number = soundNumber terms bits (cursorOf c) (frameBy r k)
 
   abbrev g : Word
   g = bitAt (r .octets)
@@ -29,17 +30,17 @@ module _ (r : Record) (k : Kind) (c : Cursor) (bits : ℕ) where
   pub number-start : (r .start ≡ c .position → ⊥) → 6 ≡ the-number
   number-start n = sym (rw (ne-eqb (r .start) (c .position) n))
 
-  module _ (same : r .start ≡ c .position) (due : ℕ) (d : due ≡ verdictOf (c .context) g k) where
-    cut-due : verdictOf (c .context) (wordAt g 0 (bodyOf k)) k ≡ due
-    cut-due = verdict-cut (c .context) g k ∙ sym d
+  module _ (same : r .start ≡ c .position) (due : ℕ) (d : due ≡ verdictOf terms (c .context) g k) where
+    cut-due : verdictOf terms (c .context) (wordAt g 0 (bodyOf k)) k ≡ due
+    cut-due = verdict-cut terms (c .context) g k ∙ sym d
 
     -- the verdict isn't the one due
     pub number-verdict : (r .verdict ≡ due → ⊥) → 6 ≡ the-number
     number-verdict n = sym (rw (eq-eqb (r .start) (c .position) same, cut-due, ne-eqb (r .verdict) due n))
 
     module _ (v : r .verdict ≡ due) (t : Bool) (a : t ≡ cond (eqb (c .context) 0) (startsBy k due) (follows (c .context) k)) where
-      rule : allowed (c .context) (wordAt g 0 (bodyOf k)) k ≡ t
-      rule = sym (a ∙ allowed-by (c .context) g k due d)
+      rule : allowed terms (c .context) (wordAt g 0 (bodyOf k)) k ≡ t
+      rule = sym (a ∙ allowed-by terms (c .context) g k due d)
 
       -- rule 2 has no such frame there
       pub number-rule : not t ≡ true → 6 ≡ the-number

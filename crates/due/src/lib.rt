@@ -6,13 +6,14 @@ ghost use Rattle.item.specs.Item.{cursorOf};
 ghost use Rattle.channel.specs.Sound.{soundNumber};
 ghost use Rattle.parse.specs.Parsed.{frameBy};
 use channel::Kind;
+use channel::Terms;
 use item::Cursor;
 use parse::Record;
 
-// The number of the sound record of a frame of a kind, at a cursor and before the end of a buffer of some bits: 6 and 4 in that order, or 0.
-pub fn number(r: Record, k: Kind, c: Cursor, bits: usize, masks: &mut [u64]) -> u64
+// The number of the sound record of a frame of a kind on some terms, at a cursor and before the end of a buffer of some bits: 6 and 4 in that order, or 0.
+pub fn number(r: Record, k: Kind, t: Terms, c: Cursor, bits: usize, masks: &mut [u64]) -> u64
     requires { ⌜ (r .start ≤ 4294967295) × (r .tail ≤ 4294967295) × Kept (now masks) ⌝ }
-    ensures { λ n. ⌜ (n ≡ soundNumber bits (cursorOf c) (frameBy r k)) × Kept (now (masks .exit)) ⌝ }
+    ensures { λ n. ⌜ (n ≡ soundNumber t bits (cursorOf c) (frameBy r k)) × Kept (now (masks .exit)) ⌝ }
 {
     let start = r.start;
     let tail = r.tail;
@@ -21,7 +22,7 @@ pub fn number(r: Record, k: Kind, c: Cursor, bits: usize, masks: &mut [u64]) -> 
     if start != c.position {
         return 6;
     }
-    let due = verdict::verdict_in(octets, k, c.context, masks);
+    let due = verdict::verdict_in(octets, k, t, c.context, masks);
     if verdict != due {
         return 6;
     }

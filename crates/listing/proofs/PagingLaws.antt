@@ -33,7 +33,7 @@ first = record { position = 0; context = 0 }
 
 -- what the listing asks of a page
 abbrev pub asked : List ℕ → ℕ → CursorNumbers → PageRequest
-asked capture direction cursor = record { n = 8 * length capture; terms = record { direction = direction }; cursor = cursor; most = 4096 }
+asked capture direction cursor = record { n = 8 * length capture; terms = record { direction = direction; profile = 0 }; cursor = cursor; most = 4096 }
 
 -- the number that 1 to 3 give
 abbrev pub pageNumber : List ℕ → ℕ → CursorNumbers → ℕ

@@ -17,9 +17,9 @@ use Rattle.lines.specs.Lines.{linesOf}
 abbrev pub numberOf : List ℕ → ℕ → ℕ
 numberOf capture direction = cond (ltb 1 direction) 1 (cond (ltb 65536 (length capture)) 2 0)
 
--- the capture that is read: all bits of its bytes, n being eight times its length
+-- the capture that is read: all bits of its bytes, n being eight times its length, with profile 0
 abbrev pub wholeOf : List ℕ → ℕ → Capture
-wholeOf capture direction = captureOf capture (8 * length capture) (termsBy (record { direction = direction }))
+wholeOf capture direction = captureOf capture (8 * length capture) (termsBy (record { direction = direction; profile = 0 }))
 
 -- by the number: one line for each item of the reading from the beginning, in order; on a refusal only its line
 abbrev pub TextBy : ℕ → List ℕ → ℕ → List ℕ → Type 0

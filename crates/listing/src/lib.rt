@@ -27,6 +27,7 @@ fn list(capture: &[u8], direction: u8, out: &mut [u8]) -> usize
                 n: n,
                 terms: TermNumbers {
                     direction: direction as u64,
+                    profile: 0,
                 },
                 cursor: cursor,
                 most: 4096,

@@ -11,7 +11,7 @@ use lib.Dec.{T, lit<}
 use lib.ListN.{length, getD, set, replicate, length-set}
 use lib.Seq.{getD-set-same, getD-set-other}
 use Rattle.channel.specs.declared.Kind.the-variants.{Speech, Amr670, Amr740}
-use Rattle.channel.specs.Checks.{checks, checks475, checks515, checks590}
+use Rattle.channel.specs.Checks.{checks475, checks515, checks590, checksSilence, checks}
 use Rattle.fields.specs.Below.{Below}
 use Rattle.fields.proofs.BelowLaws.{allLt, listed-below}
 use Rattle.crc.specs.Taps.{MasksAt}
@@ -50,7 +50,7 @@ storing-next ts ms ns at j x l e s =
     }
 
 -- the nine masks of list i are stored, and the mark behind them
-module _ (ps ts ms ns : List ℕ) (i : ℕ) (in12 : i < 12) (e : ps ≡ getD covered i []) (t : MasksAt ps ts 0) (kept : Kept ms) (s : Storing ts ms ns (10 * i) 9) where
+module _ (ps ts ms ns : List ℕ) (i : ℕ) (known : i < 13) (e : ps ≡ getD covered i []) (t : MasksAt ps ts 0) (kept : Kept ms) (s : Storing ts ms ns (10 * i) 9) where
   abbrev marked : List ℕ
   marked = set ns (10 * i + 9) 1
 
@@ -91,7 +91,7 @@ pub more-none : (ms : List ℕ) (i : ℕ) → Kept ms → (getD ms (10 * i + 9) 
 more-none ms i k h = record { kept = k; here = h; still = λ j l m. m }
 
 -- where the lists of a mode or kind stand among the covered ones. The D places stay folded here, and what is covered stays folded where an array is
--- compared with its list: else each comparison would compute all twelve lists.
+-- compared with its list: else each comparison would compute all thirteen lists.
 pub of-speech : getD covered 0 [] ≡ getD (checks 0 Speech) 0 []
 unfolding covered checks
 of-speech = refl
@@ -124,14 +124,15 @@ pub of-740 : getD covered 11 [] ≡ getD (checks 0 Amr740) 0 []
 unfolding covered checks
 of-740 = refl
 
+pub of-silence : getD covered 12 [] ≡ getD checksSilence 0 []
+unfolding covered checks
+of-silence = refl
+
 -- what `put_masks` asks: the array is list i, and its places lie in a frame
-pub asked : {i : ℕ} {ms ps : List ℕ} → i < 12 → Kept ms → ps ≡ getD covered i [] → T (allLt 160 ps) → (i < 12) × Kept ms × (ps ≡ getD covered i []) × Below 160 ps
+pub asked : {i : ℕ} {ms ps : List ℕ} → i < 13 → Kept ms → ps ≡ getD covered i [] → T (allLt 160 ps) → (i < 13) × Kept ms × (ps ≡ getD covered i []) × Below 160 ps
 asked {i} {ms} {ps} h k e t = (h, k, e, listed-below 160 ps t)
 
 -- a list that is none of the first of its part is the last
-pub third : (a i : ℕ) → a ≤ i → i < a + 3 → (i ≡ a → ⊥) → (i ≡ a + 1 → ⊥) → i ≡ a + 2
-third a i l h x y = omega arith
-
 pub fourth : (a i : ℕ) → a ≤ i → i < a + 4 → (i ≡ a → ⊥) → (i ≡ a + 1 → ⊥) → (i ≡ a + 2 → ⊥) → i ≡ a + 3
 fourth a i l h x y z = omega arith
 
@@ -141,5 +142,5 @@ zeros zero k = refl
 zeros (suc n) zero = refl
 zeros (suc n) (suc k) = zeros n k
 
-pub kept-none : Kept (replicate 120 0)
-kept-none = record { size = refl; each = λ i l m. absurd (m (zeros 120 (10 * i + 9))) }
+pub kept-none : Kept (replicate 130 0)
+kept-none = record { size = refl; each = λ i l m. absurd (m (zeros 130 (10 * i + 9))) }

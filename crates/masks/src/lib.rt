@@ -8,16 +8,16 @@ ghost use lib.ListN.{getD};
 ghost use Rattle.fields.specs.Below.{Below};
 ghost use Rattle.masks.specs.Kept.{covered, Kept, More};
 
-// Numbers for the masks of the twelve lists, none of them worked out.
-pub fn no_masks() -> [u64; 120]
+// Numbers for the masks of the thirteen lists, none of them worked out.
+pub fn no_masks() -> [u64; 130]
     ensures { λ r. ⌜ Kept r ⌝ }
 {
-    [0u64; 120]
+    [0u64; 130]
 }
 
 // Works out the masks of list i, and marks them.
 fn put_masks(m: &mut [u64], i: usize, places: &[u8])
-    requires { ⌜ (i < 12) × Kept (now m) × (now places ≡ getD covered i []) × Below 160 (now places) ⌝ }
+    requires { ⌜ (i < 13) × Kept (now m) × (now places ≡ getD covered i []) × Below 160 (now places) ⌝ }
     ensures { λ _. ⌜ More i (now (m .entry)) (now (m .exit)) ⌝ }
 {
     let masks = crc::masks_of(places);
@@ -54,21 +54,22 @@ fn make_515(m: &mut [u64], i: usize)
     }
 }
 
-// Works out the masks of list i, one that has only a CRC1: of kind 6 in mode 5,90, or of kind 7 or 8.
+// Works out the masks of list i, one that has only a CRC1: of kind 6 in mode 5,90, or of kind 7, 8 or 5.
 fn make_lone(m: &mut [u64], i: usize)
-    requires { ⌜ (9 ≤ i) × (i < 12) × Kept (now m) ⌝ }
+    requires { ⌜ (9 ≤ i) × (i < 13) × Kept (now m) ⌝ }
     ensures { λ _. ⌜ More i (now (m .entry)) (now (m .exit)) ⌝ }
 {
     match i {
         9 => put_masks(m, 9, &covered::LOWER_590_CRC1),
         10 => put_masks(m, 10, &covered::AMR670_CRC1),
-        _ => put_masks(m, 11, &covered::AMR740_CRC1),
+        11 => put_masks(m, 11, &covered::AMR740_CRC1),
+        _ => put_masks(m, 12, &covered::NO_SPEECH_CRC1),
     }
 }
 
-// Works out the masks of list i. In parts, since one function of twelve arms took longer to check.
+// Works out the masks of list i. In parts, since one function of thirteen arms took longer to check.
 pub fn make(m: &mut [u64], i: usize)
-    requires { ⌜ (i < 12) × Kept (now m) ⌝ }
+    requires { ⌜ (i < 13) × Kept (now m) ⌝ }
     ensures { λ _. ⌜ More i (now (m .entry)) (now (m .exit)) ⌝ }
 {
     if i == 0 {

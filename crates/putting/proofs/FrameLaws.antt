@@ -39,7 +39,7 @@ length-bits f =
 pub taken-length : (terms : Terms) (bits : ℕ) (c : Cursor Context) (bytes : List ℕ) (fs : List Frame) (left : List ℕ) → Taken terms bits c bytes fs left → c .position + length (allBits fs) ≡ overAll rules c (items fs) .position
 taken-length terms bits c bytes [] left t = omega arith
 taken-length terms bits c bytes (f ∷ fs) left (r, i, z, t) =
-    omega (arith, length-append (bitsOf f) (allBits fs), length-bits f, passes bits c f z .at, taken-length terms bits (over rules c (frame f)) r fs left t)
+    omega (arith, length-append (bitsOf f) (allBits fs), length-bits f, passes terms bits c f z .at, taken-length terms bits (over rules c (frame f)) r fs left t)
 
 -- the bits of a body, before it is cut
 body-bits : (g : Word) (b : ℕ) → map (wordAt g 0 b) (count b 0) ≡ map g (count b 0)
@@ -112,7 +112,7 @@ module _ (terms : Terms) (bits : ℕ) (c : Cursor Context) (bytes : List ℕ) (f
           go [] e t = absurd (omega (arith, length-drop at bytes, ap length t))
           go (f ∷ rest) e (r, s, z, t) =
               let q : g ≡ f = is terms f r s in
-              let a = passes bits (overAll rules c (items (p .done))) f z in
+              let a = passes terms bits (overAll rules c (items (p .done))) f z in
               let b : drop (at + sizeOf (frame g)) bytes ≡ r = ap (λ (x : Frame). drop (at + sizeOf (frame x)) bytes) q ∙ rest-is terms bytes at f r s in
               record {
                 ends = subst (λ (x : Frame). behind x ≤ bits) (sym q) (a .ends);

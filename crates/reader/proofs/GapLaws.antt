@@ -13,6 +13,7 @@ use lib.ListN.{getD}
 use Rattle.reading.specs.Reading.{Starts}
 use Rattle.bits.specs.Bit.{count}
 use Rattle.sync.specs.Sync.{Synced, SyncFrom}
+use Rattle.channel.specs.declared.Terms.{Terms}
 use Rattle.channel.specs.declared.Pattern.{Pattern}
 use Rattle.channel.specs.declared.Kind.{Kind}
 use Rattle.channel.specs.declared.Kind.the-variants.{Speech, Data, Om, Configuration, NoSpeech, Lower, Amr670, Amr740}
@@ -39,15 +40,15 @@ sync-place j h = eqb-true (getD sync j 0) (16 * j + 32) (all-below 8 (λ j. eqb 
 abbrev synced : Pattern → Bool
 synced t = all (λ i. elem i (zerosOf t)) (count 8 0) && (elem 8 (onesOf t) && all (λ i. elem i (onesOf t)) sync)
 
-starts-synced : (g : Word) (k : Kind) → starts g k ≡ true → synced (patternOf k) ≡ true
-starts-synced g Speech h = refl
-starts-synced g Data h = refl
-starts-synced g Om h = refl
-starts-synced g Configuration h = refl
-starts-synced g NoSpeech h = refl
-starts-synced g Lower h = refl
-starts-synced g Amr670 h = refl
-starts-synced g Amr740 h = absurd (no-740 g h)
+starts-synced : (t : Terms) (g : Word) (k : Kind) → starts t g k ≡ true → synced (patternOf k) ≡ true
+starts-synced t g Speech h = refl
+starts-synced t g Data h = refl
+starts-synced t g Om h = refl
+starts-synced t g Configuration h = refl
+starts-synced t g NoSpeech h = refl
+starts-synced t g Lower h = refl
+starts-synced t g Amr670 h = refl
+starts-synced t g Amr740 h = absurd (no-740 t g h)
 
 in-sync : (j : ℕ) → j < 8 → elem (getD sync j 0) sync ≡ true
 in-sync = all-below 8 (λ j. elem (getD sync j 0) sync) refl
@@ -65,12 +66,12 @@ module _ (w : Capture) (q : ℕ) where
 
     first-zero : (i : ℕ) → i < 8 → w .bits (q + i) ≡ false
     first-zero i l =
-        let e : all (λ i. elem i (zerosOf (patternOf (f .kind)))) (count 8 0) ≡ true = and-l _ _ (starts-synced (f .body) (f .kind) (h .allows)) in
+        let e : all (λ i. elem i (zerosOf (patternOf (f .kind)))) (count 8 0) ≡ true = and-l _ _ (starts-synced (w .terms) (f .body) (f .kind) (h .allows)) in
         sym (bit-of i (omega arith))
         ∙ zero-at (f .body) (patternOf (f .kind)) i (all-below 8 (λ i. elem i (zerosOf (patternOf (f .kind)))) e i l) holds
 
     then-ones : elem 8 (onesOf (patternOf (f .kind))) && all (λ i. elem i (onesOf (patternOf (f .kind)))) sync ≡ true
-    then-ones = and-r (all (λ i. elem i (zerosOf (patternOf (f .kind)))) (count 8 0)) _ (starts-synced (f .body) (f .kind) (h .allows))
+    then-ones = and-r (all (λ i. elem i (zerosOf (patternOf (f .kind)))) (count 8 0)) _ (starts-synced (w .terms) (f .body) (f .kind) (h .allows))
 
     one-in : (i : ℕ) → i < 158 → elem i (onesOf (patternOf (f .kind))) ≡ true → w .bits (q + i) ≡ true
     one-in i l e = sym (bit-of i l) ∙ one-at (f .body) (patternOf (f .kind)) i e holds

@@ -70,13 +70,13 @@ module _ (f : ℕ → Bool) (n : ℕ) (terms : Terms) (x : Context) (p : ℕ) (o
     none-past l h e = let q = ap bodyOf (same-kind h e) in omega (arith, e .stands .before)
 
     -- rule 2 does not allow it
-    pub none-refused : (v : ℕ) (r : Bool) → v ≡ verdictOf x g k → r ≡ cond (eqb x 0) (startsBy k v) (follows x k) → not r ≡ true → (h : Frame) → Due w x p h → ⊥
+    pub none-refused : (v : ℕ) (r : Bool) → v ≡ verdictOf terms x g k → r ≡ cond (eqb x 0) (startsBy k v) (follows x k) → not r ≡ true → (h : Frame) → Due w x p h → ⊥
     none-refused v r j t z h e =
         let q = same-kind h e in
         let b : h .body ≡ wordAt g 0 (bodyOf (h .kind)) = e .stands .bits ∙ sym (word-in (h .kind) (e .stands .before)) in
-        let a : allowed x (wordAt g 0 (bodyOf (h .kind))) (h .kind) ≡ true = subst (λ (u : Word). allowed x u (h .kind) ≡ true) b (e .allows) in
-        let a′ : allowed x (wordAt g 0 (bodyOf k)) k ≡ true = subst (λ (i : Kind). allowed x (wordAt g 0 (bodyOf i)) i ≡ true) q a in
-        never (sym a′ ∙ sym (allowed-by x g k v j) ∙ sym t ∙ not-true r z)
+        let a : allowed terms x (wordAt g 0 (bodyOf (h .kind))) (h .kind) ≡ true = subst (λ (u : Word). allowed terms x u (h .kind) ≡ true) b (e .allows) in
+        let a′ : allowed terms x (wordAt g 0 (bodyOf k)) k ≡ true = subst (λ (i : Kind). allowed terms x (wordAt g 0 (bodyOf i)) i ≡ true) q a in
+        never (sym a′ ∙ sym (allowed-by terms x g k v j) ∙ sym t ∙ not-true r z)
 
     -- the tail is too short
     pub none-short : (t : ℕ) → Tail w (p + bodyOf k) t → t < leastTail d k → (h : Frame) → Due w x p h → ⊥
@@ -87,7 +87,7 @@ module _ (f : ℕ → Bool) (n : ℕ) (terms : Terms) (x : Context) (p : ℕ) (o
         omega (arith, tail-one w (p + bodyOf k) t (h .tail) whole t′)
 
     -- and where nothing is amiss it is due
-    pub seen-due : (v t : ℕ) (r : Bool) → p + bodyOf k ≤ n → v ≡ verdictOf x g k → r ≡ cond (eqb x 0) (startsBy k v) (follows x k) → not r ≡ false → Tail w (p + bodyOf k) t
+    pub seen-due : (v t : ℕ) (r : Bool) → p + bodyOf k ≤ n → v ≡ verdictOf terms x g k → r ≡ cond (eqb x 0) (startsBy k v) (follows x k) → not r ≡ false → Tail w (p + bodyOf k) t
         → leastTail d k ≤ t → Due w x p (frameOf k o p t v) × (o ≡ octetsAt w p)
     seen-due v t r l j a z whole m = (
       record {
@@ -100,8 +100,8 @@ module _ (f : ℕ → Bool) (n : ℕ) (terms : Terms) (x : Context) (p : ℕ) (o
               tail = whole;
               least = m;
             };
-        allows = sym (allowed-by x g k v j) ∙ sym a ∙ not-false r z;
-        judged = j ∙ sym (verdict-cut x g k);
+        allows = sym (allowed-by terms x g k v j) ∙ sym a ∙ not-false r z;
+        judged = j ∙ sym (verdict-cut terms x g k);
       },
       octets,
     )

@@ -39,7 +39,7 @@ fn frame_at(s: &[u8], n: usize, t: Terms, p: usize, x: u8, masks: &mut [u64]) ->
             if n < behind {
                 return gap(p, 0);
             }
-            let verdict = verdict::verdict_in(o, k, x, masks);
+            let verdict = verdict::verdict_in(o, k, t, x, masks);
             if !allowed::allowed_in(k, x, verdict) {
                 return gap(p, 0);
             }

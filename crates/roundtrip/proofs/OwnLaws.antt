@@ -54,8 +54,8 @@ module _ (w : Capture) (short : w .n < 4294967296) (bits : ℕ) where
   due-sound c f rest o = record { fit = obeys-fit w short c (frame f) o; least = o .stands .least; front = refl }
 
   -- and is refused only by 4, where it ends past the buffer
-  due-number : (c : Cursor Context) (f : Frame) (b : Bool) → Due w (c .context) (c .position) f → ltb bits (behind f) ≡ b → soundNumber bits c f ≡ cond b 4 0
-  due-number c f b o e = rw (eq-eqb (f .start) (c .position) (o .stands .at), eq-eqb (f .verdict) (verdictOf (c .context) (f .body) (f .kind)) (o .judged), o .allows, e)
+  due-number : (c : Cursor Context) (f : Frame) (b : Bool) → Due w (c .context) (c .position) f → ltb bits (behind f) ≡ b → soundNumber (w .terms) bits c f ≡ cond b 4 0
+  due-number c f b o e = rw (eq-eqb (f .start) (c .position) (o .stands .at), eq-eqb (f .verdict) (verdictOf (w .terms) (c .context) (f .body) (f .kind)) (o .judged), o .allows, e)
 
   due-decides : (c : Cursor Context) (f : Frame) (rest : List ℕ) → Due w (c .context) (c .position) f → bits < behind f → Decides (w .terms) bits c (recordOf (frame f) ++ rest) 4
   unfolding recordOf

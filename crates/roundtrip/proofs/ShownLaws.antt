@@ -142,7 +142,7 @@ module _ (w : Capture) where
         → overAll rules c (items fs) .position ≡ w .n → Stretch rules w c (items fs)
     taken-stretch c bytes [] left t s e = tt
     taken-stretch c bytes (f ∷ fs) left (r, h, z, t) s e =
-        let p = passes bits c f z in
+        let p = passes (w .terms) bits c f z in
         let rest = shows-rest (w .bits) (c .position) (bitsOf f) (allBits fs) (behind f) (frame-ends w (c .position) f (p .at)) s in
         let stops = next-stops (over rules c (frame f)) r fs left t rest e in
         let m = taken-length (w .terms) bits (over rules c (frame f)) r fs left t in

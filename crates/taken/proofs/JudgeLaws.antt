@@ -49,10 +49,10 @@ module _ (terms : Terms) (bits : ℕ) (c : Cursor Context) (bytes : List ℕ) wh
 
   module _ (at count : ℕ) (cursor : Cursor Context) (j : Judging terms bits c bytes at count cursor) where
     -- one record more is taken
-    pub judge-turn : (f : Frame) (next : Cursor Context) (number size : ℕ) → ((rest : List ℕ) × SoundAs terms (drop at bytes) f rest) → number ≡ soundNumber bits cursor f → number ≡ 0
+    pub judge-turn : (f : Frame) (next : Cursor Context) (number size : ℕ) → ((rest : List ℕ) × SoundAs terms (drop at bytes) f rest) → number ≡ soundNumber terms bits cursor f → number ≡ 0
         → next ≡ over rules cursor (frame f) → size ≡ sizeOf (frame f) → Judging terms bits c bytes (at + size) (count + 1) next
     judge-turn f next number size (rest, s) e z r q =
-        let n : soundNumber bits (overAll rules c (items (j .done))) f ≡ 0 = subst (λ (y : Cursor Context). soundNumber bits y f ≡ 0) (j .moved) (sym e ∙ z) in
+        let n : soundNumber terms bits (overAll rules c (items (j .done))) f ≡ 0 = subst (λ (y : Cursor Context). soundNumber terms bits y f ≡ 0) (j .moved) (sym e ∙ z) in
         let t : Taken terms bits c bytes (j .done ++ (f ∷ [])) rest = taken-more terms bits c bytes (j .done) (drop at bytes) f rest (j .taken) s n in
         let a : drop (at + size) bytes ≡ rest = ap (λ (k : ℕ). drop (at + k) bytes) q ∙ rest-is terms bytes at f rest s in
         record {
@@ -79,11 +79,11 @@ module _ (terms : Terms) (bits : ℕ) (c : Cursor Context) (bytes : List ℕ) wh
         }
 
     -- it is sound, and refused by 6 or 4
-    pub judged-refused : (f : Frame) (number : ℕ) → ((rest : List ℕ) × SoundAs terms (drop at bytes) f rest) → number ≡ soundNumber bits cursor f → (number ≡ 0 → ⊥) → at < length bytes
+    pub judged-refused : (f : Frame) (number : ℕ) → ((rest : List ℕ) × SoundAs terms (drop at bytes) f rest) → number ≡ soundNumber terms bits cursor f → (number ≡ 0 → ⊥) → at < length bytes
         → JudgedAs terms bits c bytes number count cursor
     judged-refused f number (rest, s) e z l =
         decided-by number l
-        (λ b bs here. inr (f, rest, subst (λ (l : List ℕ). SoundAs terms l f rest) here s, e ∙ ap (λ (y : Cursor Context). soundNumber bits y f) (j .moved), omega arith))
+        (λ b bs here. inr (f, rest, subst (λ (l : List ℕ). SoundAs terms l f rest) here s, e ∙ ap (λ (y : Cursor Context). soundNumber terms bits y f) (j .moved), omega arith))
 
     -- it is unsound
     pub judged-unsound : Unsound terms (drop at bytes) → at < length bytes → JudgedAs terms bits c bytes 5 count cursor

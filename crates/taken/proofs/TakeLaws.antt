@@ -38,7 +38,7 @@ module _ (terms : Terms) (bits : ℕ) where
   decides-one c (b ∷ bs) j k (inr (f, r, h, e, u)) (inl (m, v)) = absurd (v f r h)
   decides-one c (b ∷ bs) j k (inr (f, r, h, e, u)) (inr (g, s, i, m, v)) =
       let (p, q) = sound-one terms (b ∷ bs) f g r s h i in
-      e ∙ ap (soundNumber bits c) p ∙ sym m
+      e ∙ ap (soundNumber terms bits c) p ∙ sym m
 
   -- 0 decides where nothing is left
   pub decides-all : (c : Cursor Context) (bytes : List ℕ) → Decides terms bits c bytes 0 → bytes ≡ []
@@ -47,12 +47,12 @@ module _ (terms : Terms) (bits : ℕ) where
   decides-all c (b ∷ bs) (inr (f, r, h, e, u)) = absurd (omega arith)
 
   -- and where it is decided, no record is taken
-  decides-ends : (c : Cursor Context) (bytes : List ℕ) (number : ℕ) (f : Frame) (r : List ℕ) → Decides terms bits c bytes number → SoundAs terms bytes f r → soundNumber bits c f ≡ 0 → ⊥
+  decides-ends : (c : Cursor Context) (bytes : List ℕ) (number : ℕ) (f : Frame) (r : List ℕ) → Decides terms bits c bytes number → SoundAs terms bytes f r → soundNumber terms bits c f ≡ 0 → ⊥
   decides-ends c [] number f r x h z = sound-some terms f r h
   decides-ends c (b ∷ bs) number f r (inl (e, u)) h z = u f r h
   decides-ends c (b ∷ bs) number f r (inr (g, s, i, e, u)) h z =
       let (p, q) = sound-one terms (b ∷ bs) f g r s h i in
-      omega (arith, ap (soundNumber bits c) p)
+      omega (arith, ap (soundNumber terms bits c) p)
 
   -- the records taken, what is left behind them, and the number that decides there are one
   pub taken-one : (c : Cursor Context) (bytes : List ℕ) (fs gs : List Frame) (l m : List ℕ) (j k : ℕ)
@@ -79,27 +79,27 @@ module _ (terms : Terms) (bits : ℕ) where
 
   -- one record more: it is sound, and neither 6 nor 4 is given at the cursor that the others left
   pub taken-more : (c : Cursor Context) (bytes : List ℕ) (fs : List Frame) (left : List ℕ) (f : Frame) (rest : List ℕ) → Taken terms bits c bytes fs left → SoundAs terms left f rest
-      → soundNumber bits (overAll rules c (items fs)) f ≡ 0 → Taken terms bits c bytes (fs ++ (f ∷ [])) rest
+      → soundNumber terms bits (overAll rules c (items fs)) f ≡ 0 → Taken terms bits c bytes (fs ++ (f ∷ [])) rest
   taken-more c bytes [] left f rest t h z = (rest, subst (λ (l : List ℕ). SoundAs terms l f rest) (sym t) h, z, refl)
   taken-more c bytes (g ∷ fs) left f rest (r, i, w, t) h z = (r, i, w, taken-more (over rules c (frame g)) r fs left f rest t h z)
 
 -- a frame that is refused neither by 6 nor by 4 at a cursor: it begins there, has the verdict due, is allowed by rule 2, and ends by the end of the buffer
-pub record Passes (bits : ℕ) (c : Cursor Context) (f : Frame) : Type 0 where
+pub record Passes (terms : Terms) (bits : ℕ) (c : Cursor Context) (f : Frame) : Type 0 where
   pub at : f .start ≡ c .position
-  pub judged : f .verdict ≡ verdictOf (c .context) (f .body) (f .kind)
-  pub allows : allowed (c .context) (f .body) (f .kind) ≡ true
+  pub judged : f .verdict ≡ verdictOf terms (c .context) (f .body) (f .kind)
+  pub allows : allowed terms (c .context) (f .body) (f .kind) ≡ true
   pub ends : behind f ≤ bits
 
 -- so is each whose record is taken
-pub passes : (bits : ℕ) (c : Cursor Context) (f : Frame) → soundNumber bits c f ≡ 0 → Passes bits c f
-passes bits c f z =
+pub passes : (terms : Terms) (bits : ℕ) (c : Cursor Context) (f : Frame) → soundNumber terms bits c f ≡ 0 → Passes terms bits c f
+passes terms bits c f z =
     let (a, z₁) = passed (not (eqb (f .start) (c .position))) 6 _ (omega arith) z in
-    let (b, z₂) = passed (not (eqb (f .verdict) (verdictOf (c .context) (f .body) (f .kind)))) 6 _ (omega arith) z₁ in
-    let (e, z₃) = passed (not (allowed (c .context) (f .body) (f .kind))) 6 _ (omega arith) z₂ in
+    let (b, z₂) = passed (not (eqb (f .verdict) (verdictOf terms (c .context) (f .body) (f .kind)))) 6 _ (omega arith) z₁ in
+    let (e, z₃) = passed (not (allowed terms (c .context) (f .body) (f .kind))) 6 _ (omega arith) z₂ in
     let (g, z₄) = passed (ltb bits (behind f)) 4 0 (omega arith) z₃ in
     record {
       at = eqb-true (f .start) (c .position) (not-false _ a);
-      judged = eqb-true (f .verdict) (verdictOf (c .context) (f .body) (f .kind)) (not-false _ b);
+      judged = eqb-true (f .verdict) (verdictOf terms (c .context) (f .body) (f .kind)) (not-false _ b);
       allows = not-false _ e;
       ends = ltb-false bits (behind f) g;
     }
@@ -108,4 +108,4 @@ module _ (terms : Terms) (bits : ℕ) where
   -- the cursor behind frames taken ends by the end of the buffer
   pub taken-within : (c : Cursor Context) (bytes : List ℕ) (fs : List Frame) (left : List ℕ) → Taken terms bits c bytes fs left → c .position ≤ bits → overAll rules c (items fs) .position ≤ bits
   taken-within c bytes [] left t h = h
-  taken-within c bytes (f ∷ fs) left (r, i, z, t) h = taken-within (over rules c (frame f)) r fs left t (passes bits c f z .ends)
+  taken-within c bytes (f ∷ fs) left (r, i, z, t) h = taken-within (over rules c (frame f)) r fs left t (passes terms bits c f z .ends)

@@ -18,11 +18,11 @@ items fs = map frame fs
 -- that the one before it left; what is behind them is left
 abbrev pub Taken : Terms → ℕ → Cursor Context → List ℕ → List Frame → List ℕ → Type 0
 Taken terms bits c bytes [] left = bytes ≡ left
-Taken terms bits c bytes (f ∷ fs) left = (rest : List ℕ) × SoundAs terms bytes f rest × (soundNumber bits c f ≡ 0) × Taken terms bits (over rules c (frame f)) rest fs left
+Taken terms bits c bytes (f ∷ fs) left = (rest : List ℕ) × SoundAs terms bytes f rest × (soundNumber terms bits c f ≡ 0) × Taken terms bits (over rules c (frame f)) rest fs left
 
 -- what decides there: nothing is left (0), the record there is unsound (5), or it is sound and refused by 6 or 4
 abbrev pub Decides : Terms → ℕ → Cursor Context → List ℕ → ℕ → Type 0
 Decides terms bits c [] number = number ≡ 0
 Decides terms bits c (b ∷ bs) number =
     ((number ≡ 5) × Unsound terms (b ∷ bs))
-    ⊎ ((f : Frame) × (rest : List ℕ) × SoundAs terms (b ∷ bs) f rest × (number ≡ soundNumber bits c f) × (0 < number))
+    ⊎ ((f : Frame) × (rest : List ℕ) × SoundAs terms (b ∷ bs) f rest × (number ≡ soundNumber terms bits c f) × (0 < number))

@@ -38,7 +38,7 @@ pub fn judge_all(
         let kind = r.kind;
         match kind {
             RecordKind::Frame(k) => {
-                let number = due::number(r, k, cursor, bits, masks);
+                let number = due::number(r, k, t, cursor, bits, masks);
                 if number != 0 {
                     return Judged {
                         number: number,

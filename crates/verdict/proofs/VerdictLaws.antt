@@ -1,20 +1,22 @@
 -- How the code's modes and verdicts come to the definitions.
 -- Assumes nothing.
 use mathlib.Core.Path.{_≡_, refl, sym, _∙_, ap, subst}
-use mathlib.Core.Bool.{false}
+use mathlib.Core.Bool.{true, false}
 use mathlib.Core.List.{[], _∷_}
-use Prim.Native.Nat.{ℕ, zero, suc, _+_, _*_, _≤_}
+use Prim.Native.Nat.{ℕ, zero, suc, _+_, _*_, _/_, _%_, _^_, _≤_}
 use native.Mathlib.Omega.{arith}
 use borrow.Author.Tests.{eq-eqb, ne-eqb}
 use lib.Dec.{eqb}
 use lib.ListN.{getD, List·getD-eq-default}
-use Rattle.bits.specs.Bit.{toN}
+use Rattle.bits.specs.Bit.{toN, number, count}
 use Rattle.channel.specs.declared.Pattern.the-variants.{Low}
+use Rattle.channel.specs.declared.Terms.{Terms}
 use Rattle.channel.specs.declared.Kind.{Kind}
 use Rattle.channel.specs.declared.Kind.the-variants.{Speech, Data, Om, Configuration, NoSpeech, Lower, Amr670, Amr740}
-use Rattle.channel.specs.Coding.{Word, c1to3}
-use Rattle.channel.specs.Checks.{checks, checksLower}
-use Rattle.channel.specs.Verdict.{Context, ownMode, contextMode, modeOf, unchecked, wrongs, verdictOf, afterOf}
+use Rattle.channel.specs.Places.{dPlaces}
+use Rattle.channel.specs.Coding.{Word, bitsAt, c1to3}
+use Rattle.channel.specs.Checks.{checksLower, checksSilence, checks}
+use Rattle.channel.specs.Verdict.{Context, ownMode, contextMode, modeOf, classOf, carries, unchecked, wrongs, verdictOf, afterOf}
 
 -- the mode that C1..C3 name, by their number c
 module _ (g : Word) (c : ℕ) (read : c ≡ c1to3 g Low) where
@@ -72,11 +74,27 @@ pub mode-own : (x : Context) (g : Word) (own : ℕ) → own ≡ ownMode g → (o
 mode-own x g own e h = rw (ne-eqb (ownMode g) 0 (λ z. h (e ∙ z))) e
 
 -- the verdict of a kind with CRCs of its own
-pub own-verdict : (x : Context) (g : Word) (k : Kind) (r : ℕ) → unchecked x g k ≡ false → modeOf x g k ≡ 0 → r ≡ wrongs g (checks 0 k) → r ≡ verdictOf x g k
+pub own-verdict : (t : Terms) (x : Context) (g : Word) (k : Kind) (r : ℕ) → unchecked t x g k ≡ false → carries t g k ≡ false → modeOf x g k ≡ 0
+    → r ≡ wrongs g (checks 0 k) → r ≡ verdictOf t x g k
 unfolding verdictOf
-own-verdict x g k r u m e = rw (u, m) (omega arith)
+own-verdict t x g k r u c m e = rw (u, c, m) (omega arith)
+
+-- of a kind 5, by its class
+module _ (t : Terms) (x : Context) (g : Word) (class : ℕ) (is : class ≡ classOf g) where
+  pub silence-unchecked : t .profile / 2 ^ class % 2 ≡ 0 → 128 ≡ verdictOf t x g NoSpeech
+  unfolding verdictOf checks
+  silence-unchecked z = let n : eqb (t .profile / 2 ^ classOf g % 2) 1 ≡ false = rw (← is) (ne-eqb (t .profile / 2 ^ class % 2) 1 (omega arith)) in rw n
+
+  pub silence-checked : (r : ℕ) → (t .profile / 2 ^ class % 2 ≡ 0 → ⊥) → r ≡ wrongs g checksSilence → r ≡ verdictOf t x g NoSpeech
+  unfolding verdictOf
+  silence-checked r z e = let n : eqb (t .profile / 2 ^ classOf g % 2) 1 ≡ true = rw (← is) (eq-eqb (t .profile / 2 ^ class % 2) 1 (omega arith)) in rw n (omega arith)
+
+-- the class by its two fields
+pub class-is : (g : Word) (x y : ℕ) → x ≡ number (bitsAt g (count 2 22)) → y ≡ number (bitsAt g (count 1 26)) → 2 * x + y ≡ classOf g
+unfolding dPlaces
+class-is g x y p q = omega arith
 
 -- and of a kind 6
-pub lower-verdict : (x : Context) (g : Word) (mode r : ℕ) → mode ≡ modeOf x g Lower → r ≡ 128 * toN (eqb mode 0) + 16 * mode + wrongs g (checksLower mode) → r ≡ verdictOf x g Lower
+pub lower-verdict : (t : Terms) (x : Context) (g : Word) (mode r : ℕ) → mode ≡ modeOf x g Lower → r ≡ 128 * toN (eqb mode 0) + 16 * mode + wrongs g (checksLower mode) → r ≡ verdictOf t x g Lower
 unfolding verdictOf checks
-lower-verdict x g mode r m e = e ∙ ap (λ (n : ℕ). 128 * toN (eqb n 0) + 16 * n + wrongs g (checksLower n)) m
+lower-verdict t x g mode r m e = e ∙ ap (λ (n : ℕ). 128 * toN (eqb n 0) + 16 * n + wrongs g (checksLower n)) m

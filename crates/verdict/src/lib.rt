@@ -1,15 +1,16 @@
 // The verdict byte of a frame in a context, and the context that the frame leaves.
 ghost use mathlib.Core.Path.{_≡_};
 ghost use mathlib.Core.List.{List};
-ghost use Prim.Native.Nat.{ℕ, _+_, _*_, _≤_};
+ghost use Prim.Native.Nat.{ℕ, _+_, _*_, _≤_, _<_};
 ghost use lib.Dec.{eqb};
 ghost use Rattle.bits.specs.Bit.{bitAt, toN};
-ghost use Rattle.channel.specs.declared.Kind.the-variants.{Lower};
+ghost use Rattle.channel.specs.declared.Kind.the-variants.{NoSpeech, Lower};
 ghost use Rattle.channel.specs.Checks.{checksLower};
-ghost use Rattle.channel.specs.Verdict.{ownMode, contextMode, modeOf, wrongs, verdictOf, afterOf};
+ghost use Rattle.channel.specs.Verdict.{ownMode, contextMode, modeOf, classOf, wrongs, verdictOf, afterOf};
 ghost use Rattle.word.specs.Words.{Holds};
 ghost use Rattle.masks.specs.Kept.{Kept};
 use channel::Kind;
+use channel::Terms;
 use word::Words;
 
 // The mode that a kind 6's own C1..C3 name, or 0.
@@ -73,10 +74,30 @@ fn lower_verdict(w: Words, mode: u8, m: &mut [u64]) -> u8
     128
 }
 
-// The verdict byte of a frame in a context, by the masks of the covered lists.
-pub fn verdict_in(o: [u8; 20], k: Kind, x: u8, m: &mut [u64]) -> u8
+// The class of a kind 5: D8 and D9, and behind two fixed bits D10.
+fn class_of(w: Words) -> u32
+    ensures { λ r. ⌜ (r < 8) × ((o : List ℕ) → Holds (bitAt o) (w .a) (w .b) (w .c) → r ≡ classOf (bitAt o)) ⌝ }
+{
+    2 * word::field_of(w.a, 22, 2) + word::field_of(w.a, 26, 1)
+}
+
+// The verdict of a kind 5 by the profile: its CRC1 is looked at where its class carries one.
+fn silence_verdict(w: Words, t: Terms, m: &mut [u64]) -> u8
     requires { ⌜ Kept (now m) ⌝ }
-    ensures { λ r. ⌜ (r ≡ verdictOf x (bitAt o) k) × Kept (now (m .exit)) ⌝ }
+    ensures { λ r. ⌜ Kept (now (m .exit)) × ((x : ℕ) (o : List ℕ) → Holds (bitAt o) (w .a) (w .b) (w .c) → r ≡ verdictOf t x (bitAt o) NoSpeech) ⌝ }
+{
+    let profile = t.profile;
+    let class = class_of(w);
+    if (profile >> class) % 2 == 0 {
+        return 128;
+    }
+    wrongs::one_wrong(w, m, 12)
+}
+
+// The verdict byte of a frame on some terms in a context, by the masks of the covered lists.
+pub fn verdict_in(o: [u8; 20], k: Kind, t: Terms, x: u8, m: &mut [u64]) -> u8
+    requires { ⌜ Kept (now m) ⌝ }
+    ensures { λ r. ⌜ (r ≡ verdictOf t x (bitAt o) k) × Kept (now (m .exit)) ⌝ }
 {
     let w = word::words_of(&o);
     match k {
@@ -84,7 +105,7 @@ pub fn verdict_in(o: [u8; 20], k: Kind, x: u8, m: &mut [u64]) -> u8
         Kind::Data => 0,
         Kind::Om => 0,
         Kind::Configuration => 0,
-        Kind::NoSpeech => 128,
+        Kind::NoSpeech => silence_verdict(w, t, m),
         Kind::Lower => {
             let mode = mode_in(w, x);
             lower_verdict(w, mode, m)

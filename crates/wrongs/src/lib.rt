@@ -13,7 +13,7 @@ use word::Words;
 
 // The masks of list i are worked out, unless they are already.
 fn ready(m: &mut [u64], i: usize)
-    requires { ⌜ (i < 12) × Kept (now m) ⌝ }
+    requires { ⌜ (i < 13) × Kept (now m) ⌝ }
     ensures { λ _. ⌜ More i (now (m .entry)) (now (m .exit)) ⌝ }
 {
     if m[10 * i + 9] == 0 {
@@ -23,7 +23,7 @@ fn ready(m: &mut [u64], i: usize)
 
 // 1 where the CRC of list i is wrong, by its masks.
 fn wrong_by(w: Words, m: &[u64], i: usize) -> u8
-    requires { ⌜ (i < 12) × (length (now m) ≡ 120) × MadeAt (now m) i ⌝ }
+    requires { ⌜ (i < 13) × (length (now m) ≡ 130) × MadeAt (now m) i ⌝ }
     ensures { λ r. ⌜ (r ≤ 1) × ((o : List ℕ) → Holds (bitAt o) (w .a) (w .b) (w .c) → r ≡ toN (not (right (bitAt o) (getD covered i [])))) ⌝ }
 {
     if crc::right_by(w, m, 10 * i) { 0 } else { 1 }
@@ -31,7 +31,7 @@ fn wrong_by(w: Words, m: &[u64], i: usize) -> u8
 
 // Whether the one CRC of list i is wrong. `ready` is written out here: so `make` has two callers, and the compiler leaves it out of both.
 pub fn one_wrong(w: Words, m: &mut [u64], i: usize) -> u8
-    requires { ⌜ (i < 12) × Kept (now m) ⌝ }
+    requires { ⌜ (i < 13) × Kept (now m) ⌝ }
     ensures { λ r. ⌜ Kept (now (m .exit)) × (r ≤ 1) × ((o : List ℕ) → Holds (bitAt o) (w .a) (w .b) (w .c) → r ≡ wrongs (bitAt o) (getD covered i [] ∷ [])) ⌝ }
 {
     if m[10 * i + 9] == 0 {

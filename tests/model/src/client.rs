@@ -38,13 +38,21 @@ impl Client {
 
     /// Makes one call of paging. Placement and guard byte are any numbers.
     pub fn page(&mut self, r: &page::Request, place: u64, guard: u64) -> Result<Reply, String> {
-        let numbers = [r.n, r.direction, r.position, r.context, r.most];
+        let numbers = [
+            r.n,
+            r.direction,
+            u64::from(r.profile),
+            r.position,
+            r.context,
+            r.most,
+        ];
         self.call([CALL_PAGE, place, guard], &r.capture, numbers, &r.buffer)
     }
 
     /// Makes one call of writing, which takes neither n nor most.
     pub fn write(&mut self, r: &write::Request, place: u64, guard: u64) -> Result<Reply, String> {
-        let numbers = [0, r.direction, r.position, r.context, 0];
+        let profile = u64::from(r.profile);
+        let numbers = [0, r.direction, profile, r.position, r.context, 0];
         self.call([CALL_WRITE, place, guard], &r.records, numbers, &r.buffer)
     }
 
@@ -52,7 +60,7 @@ impl Client {
         &mut self,
         how: [u64; 3],
         input: &[u8],
-        numbers: [u64; 5],
+        numbers: [u64; 6],
         buffer: &[u8],
     ) -> Result<Reply, String> {
         let lengths = [input.len() as u64, buffer.len() as u64];

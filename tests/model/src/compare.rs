@@ -25,7 +25,7 @@ pub struct Comparison {
 }
 
 /// In how many cases there is one sweep. The default run makes each sweep once at least.
-const SWEEP_EACH: u64 = 16;
+const SWEEP_EACH: u64 = 14;
 
 impl Comparison {
     pub fn new(client: Client, own_checks: bool) -> Comparison {
@@ -46,6 +46,7 @@ impl Comparison {
         let lent = Lent::new(&mut rng, made);
         self.page_case(&mut rng, &lent)?;
         self.write_case(&mut rng, &lent)?;
+        self.silence_case(&mut rng, case)?;
         match case % SWEEP_EACH {
             0 => self.sweep(&mut rng, case / SWEEP_EACH),
             _ => Ok(()),

@@ -70,7 +70,8 @@ impl Comparison {
         let mut request = Request {
             capture: lent.bytes.clone(),
             n: capture.n() as u64,
-            direction: capture.direction as u64,
+            direction: capture.terms.direction as u64,
+            profile: capture.terms.profile,
             position: 0,
             context: 0,
             most: 1,
@@ -128,6 +129,7 @@ fn lines(request: &Request, expected: &Page) -> Vec<String> {
         bytes("paging of capture", &request.capture),
         format!("n {}", request.n),
         format!("direction {}", request.direction),
+        format!("profile {}", request.profile),
         format!("position {}", request.position),
         format!("context {}", request.context),
         format!("most {}", request.most),

@@ -8,6 +8,7 @@ use model::inverse::{check, split};
 use model::page::{self, page};
 use model::requests::Lent;
 use model::rng::Rng;
+use model::silence::{Silence, SORTS};
 use model::spoil::{nonsense, spoil};
 use model::stretches::Stretch;
 use model::sweeps::{sweep, SWEEPS};
@@ -81,6 +82,16 @@ impl Comparison {
         Ok(())
     }
 
+    /// A silence frame of the case's sort, paged and written.
+    pub fn silence_case(&mut self, rng: &mut Rng, case: u64) -> Result<(), Stop> {
+        let silence = Silence::new(rng, case as usize % SORTS);
+        let paging = silence.page(rng);
+        self.page(rng, &paging, &page(&paging))?;
+        let writing = silence.write(rng);
+        self.write(rng, &writing)?;
+        Ok(())
+    }
+
     /// Makes one call of writing and compares every number and every byte; what was taken is read
     /// back; then the model's own judgement is held against its reading.
     fn write(&mut self, rng: &mut Rng, request: &Request) -> Result<Reply, Stop> {
@@ -112,6 +123,7 @@ impl Comparison {
             capture: reply.buffer.clone(),
             n: reply.answer.position,
             direction: request.direction,
+            profile: request.profile,
             position: request.position,
             context: request.context,
             most: reply.answer.items.max(1),
@@ -138,6 +150,7 @@ fn lines(request: &Request, expected: &Written) -> Vec<String> {
     let mut lines = vec![
         bytes("writing of records", &request.records),
         format!("direction {}", request.direction),
+        format!("profile {}", request.profile),
         format!("position {}", request.position),
         format!("context {}", request.context),
         bytes("buffer before", &request.buffer),

@@ -1,5 +1,6 @@
 //! Counts of what the calls of a comparison hit. What must be hit and never was fails the run.
 
+use model::frame::Frame;
 use std::collections::BTreeMap;
 
 #[derive(Default)]
@@ -79,6 +80,43 @@ impl Line<'_> {
 /// Names that end in a number.
 pub fn range(word: &str, from: usize, to: usize) -> Vec<String> {
     (from..=to).map(|i| format!("{word} {i}")).collect()
+}
+
+/// A silence frame as it was met: its class, whether the profile has that class carry a CRC, whether
+/// the CRC is right or would be, the context and the direction.
+pub fn silence(frame: &Frame, profile: u8, context: u64, direction: u64) -> String {
+    let carried = if frame.carries(profile) {
+        "with"
+    } else {
+        "without"
+    };
+    let right = if frame.silence_right() {
+        "right"
+    } else {
+        "wrong"
+    };
+    let class = frame.class();
+    format!("class {class} {carried} CRC, {right}, in context {context}, {direction}")
+}
+
+/// Every silence frame that can be met.
+pub fn silences() -> Vec<String> {
+    let mut names = Vec::new();
+    for class in 0..8 {
+        for how in [
+            "with CRC, right",
+            "with CRC, wrong",
+            "without CRC, right",
+            "without CRC, wrong",
+        ] {
+            for context in 0..=5 {
+                names.extend(
+                    [0, 1].map(|d| format!("class {class} {how}, in context {context}, {d}")),
+                );
+            }
+        }
+    }
+    names
 }
 
 /// The verdicts that a kind 6 can have: unchecked; sixteen each in 4,75 and 5,15; two in 5,90.

@@ -1,6 +1,6 @@
 //! What the calls of paging hit.
 
-use crate::coverage::{range, verdicts_of_6, Counts, Line};
+use crate::coverage::{range, silence, silences, verdicts_of_6, Counts, Line};
 use model::families::FAMILIES;
 use model::page::{Page, Request, CAUSES};
 use model::reading::Item;
@@ -23,6 +23,14 @@ pub fn count(counts: &mut Counts, request: &Request, page: &Page) {
     if page.answer.number == 0 {
         counts.add(&format!("direction {}", request.direction));
         counts.add(&format!("context after {}", page.answer.context));
+    }
+    if let Some(frame) = page.standing.iter().find(|frame| frame.kind == 5) {
+        counts.add(&silence(
+            frame,
+            request.profile,
+            request.context,
+            request.direction,
+        ));
     }
     if let Some(first) = page.items.first() {
         let context = request.context;
@@ -54,5 +62,6 @@ pub fn line(counts: &Counts) -> (String, Vec<String>) {
     line.share("kind of the first item by context", &pairs);
     line.share("buffer lengths 0..80", &range("buffer", 0, 80));
     line.share("verdicts of kind 6", &verdicts_of_6());
+    line.share("silence frames at the cursor", &silences());
     line.end("paging")
 }

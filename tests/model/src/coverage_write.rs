@@ -1,6 +1,6 @@
 //! What the calls of writing hit.
 
-use crate::coverage::{range, verdicts_of_6, Counts, Line};
+use crate::coverage::{range, silence, silences, verdicts_of_6, Counts, Line};
 use model::capture::LONGEST;
 use model::causes::{Cause, CAUSES, ORDER};
 use model::fields::{length, Fields};
@@ -31,6 +31,9 @@ fn taken(counts: &mut Counts, request: &Request, written: &Written) {
         ));
         if kind == 1 {
             counts.add(&format!("XC {}, {direction}", fields.extended >> 3));
+        }
+        if kind == 5 {
+            counts.add(&silence(frame, request.profile, *context, direction));
         }
         if kind == 6 {
             counts.add(&format!("verdict {verdict}"));
@@ -69,6 +72,15 @@ fn refused(counts: &mut Counts, request: &Request, written: &Written) {
         counts.add(&format!("{number} before {}", later.number()));
     }
     counts.add(&format!("{number} at {}", index.min(2)));
+    if first == [Cause::WrongCrcInContext0] && request.records[0] == 5 {
+        let frame = Fields::of(&request.records).frame();
+        counts.add(&silence(
+            &frame,
+            request.profile,
+            request.context,
+            request.direction,
+        ));
+    }
     if number == 4 {
         let frame = Fields::of(split(&request.records, index).1).frame();
         let bits = 8 * request.buffer.len();
@@ -119,6 +131,7 @@ pub fn line(counts: &Counts) -> (String, Vec<String>) {
     line.share("controls", &controls());
     line.share("XC numbers of speech", &xc_of_speech());
     line.share("verdicts of kind 6", &verdicts_of_6());
+    line.share("silence frames taken, or refused in context 0", &silences());
     line.share("sweeps", &range("sweep", 0, SWEEPS - 1));
     line.end("writing")
 }

@@ -1,5 +1,6 @@
 //! Families of captures: the bits before n, and places where something begins or ends.
 
+use crate::capture::Terms;
 use crate::kinds::kind;
 use crate::make::{body, frame, near_miss, wrong_crcs};
 use crate::rng::Rng;
@@ -38,13 +39,22 @@ pub const FAMILIES: [Family; 12] = [
 /// Bits made for a capture.
 pub struct Made {
     pub family: Family,
-    pub direction: usize,
+    pub terms: Terms,
     pub bits: Vec<bool>,
     pub borders: Vec<usize>,
 }
 
 /// Bit errors in 65,536: from 1e-1 to 1e-4.
 const DAMAGE: [usize; 7] = [6_554, 1_966, 655, 197, 66, 20, 7];
+
+/// Either direction; no class of No_Speech carries a CRC, each does, or some do.
+pub fn terms(rng: &mut Rng) -> Terms {
+    let any = rng.draw() as u8;
+    Terms {
+        direction: rng.below(2),
+        profile: rng.of(&[0, 255, any, any, any]),
+    }
+}
 
 pub fn make(rng: &mut Rng) -> Made {
     let family = match rng.below(400) {
@@ -63,7 +73,7 @@ pub fn make(rng: &mut Rng) -> Made {
     };
     let mut made = Made {
         family,
-        direction: rng.below(2),
+        terms: terms(rng),
         bits: Vec::new(),
         borders: Vec::new(),
     };
@@ -106,9 +116,9 @@ impl Made {
 
     /// Puts a frame behind the bits that there are, and gives the context behind it.
     fn frame(&mut self, rng: &mut Rng, number: usize, context: u64) -> u64 {
-        let mut body = body(rng, number, self.direction, context);
+        let mut body = body(rng, number, self.terms, context);
         let after = frame(number, &body).context_after();
-        let least = kind(number).least_tail[self.direction];
+        let least = kind(number).least_tail[self.terms.direction];
         let mut tail = kind(number).usual_tail;
         match self.family {
             Family::Slipped => {
@@ -150,9 +160,9 @@ impl Made {
             } else {
                 context
             };
-            let mut body = body(rng, number, self.direction, checked_by);
+            let mut body = body(rng, number, self.terms, checked_by);
             if rng.bit() {
-                wrong_crcs(rng, &mut body, number, checked_by);
+                wrong_crcs(rng, &mut body, number, self.terms.profile, checked_by);
             }
             context = frame(number, &body).context_after();
             self.borders.push(self.bits.len());
@@ -168,7 +178,7 @@ impl Made {
         for _ in 0..frames {
             let number = 1 + rng.below(8);
             let context = rng.below(6) as u64;
-            let mut bits = body(rng, number, self.direction, context);
+            let mut bits = body(rng, number, self.terms, context);
             bits.extend(vec![true; rng.below(4)]);
             let at = rng.below(length - bits.len());
             self.bits[at..at + bits.len()].copy_from_slice(&bits);
@@ -225,7 +235,7 @@ impl Made {
             }
         }
         let number = 1 + rng.below(8);
-        let mut last = body(rng, number, self.direction, 0);
+        let mut last = body(rng, number, self.terms, 0);
         last.extend(vec![true; rng.below(4)]);
         self.bits.truncate(all - last.len());
         self.borders.retain(|&p| p <= all - last.len());

@@ -34,8 +34,8 @@ fn stands_as(capture: &Capture, p: usize, kind: &Kind) -> Option<Frame> {
     }
     let body = capture.bits[p..end].to_vec();
     let tail = capture.bits[end..].iter().take_while(|bit| **bit).count();
-    let enough = tail >= kind.least_tail[capture.direction];
-    if !enough || !coding_holds(&body, kind, capture.direction) {
+    let enough = tail >= kind.least_tail[capture.terms.direction];
+    if !enough || !coding_holds(&body, kind, capture.terms.direction) {
         return None;
     }
     Some(Frame {
@@ -121,25 +121,52 @@ impl Frame {
         }
     }
 
+    /// The class of a No_Speech frame: D8, D9, D10 as a number, D8 at the top.
+    pub fn class(&self) -> usize {
+        number(&self.d()[7..10])
+    }
+
+    /// Whether the frame is a No_Speech of a class that carries a CRC.
+    pub fn carries(&self, profile: u8) -> bool {
+        self.kind == 5 && profile >> self.class() & 1 != 0
+    }
+
+    /// Whether the CRC that a No_Speech frame may carry is right, carried or not.
+    pub fn silence_right(&self) -> bool {
+        crc::right(&bits_at(&self.body, &kind(5).crcs[1][0]))
+    }
+
     /// Whether no CRC of the frame can be checked in a context.
-    pub fn unchecked(&self, context: u64) -> bool {
-        self.kind == 5 || (self.kind == 6 && self.mode(context) == 0)
+    pub fn unchecked(&self, profile: u8, context: u64) -> bool {
+        match self.kind {
+            5 => !self.carries(profile),
+            6 => self.mode(context) == 0,
+            _ => false,
+        }
+    }
+
+    /// For CRC1 up, the places covered and then those of the CRC, in a context.
+    pub fn crcs(&self, profile: u8, context: u64) -> &'static [Vec<usize>] {
+        let by = match self.kind {
+            5 => usize::from(self.carries(profile)),
+            _ => self.mode(context),
+        };
+        &kind(self.kind).crcs[by]
     }
 
     /// For CRC1 up, whether it is wrong in a context.
-    pub fn wrong_crcs(&self, context: u64) -> Vec<bool> {
-        let crcs = &kind(self.kind).crcs[self.mode(context)];
+    pub fn wrong_crcs(&self, profile: u8, context: u64) -> Vec<bool> {
         let wrong = |places: &Vec<usize>| !crc::right(&bits_at(&self.body, places));
-        crcs.iter().map(wrong).collect()
+        self.crcs(profile, context).iter().map(wrong).collect()
     }
 
-    pub fn verdict(&self, context: u64) -> u8 {
+    pub fn verdict(&self, profile: u8, context: u64) -> u8 {
         let mut verdict = 0;
-        if self.unchecked(context) {
+        if self.unchecked(profile, context) {
             verdict |= 0x80;
         }
         verdict |= (self.mode(context) as u8) << 4;
-        for (i, wrong) in self.wrong_crcs(context).iter().enumerate() {
+        for (i, wrong) in self.wrong_crcs(profile, context).iter().enumerate() {
             if *wrong {
                 verdict |= 1 << i;
             }
@@ -156,9 +183,9 @@ impl Frame {
     }
 
     /// Whether the frame starts a run; that is judged in context 0.
-    pub fn starts_run(&self) -> bool {
-        let all_right = !self.wrong_crcs(0).contains(&true);
-        let unchecked_6 = self.kind == 6 && self.unchecked(0);
+    pub fn starts_run(&self, profile: u8) -> bool {
+        let all_right = !self.wrong_crcs(profile, 0).contains(&true);
+        let unchecked_6 = self.kind == 6 && self.unchecked(profile, 0);
         self.kind != 8 && all_right && !unchecked_6
     }
 

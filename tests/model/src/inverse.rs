@@ -1,7 +1,7 @@
 //! Writing held against reading, apart from how a record was judged: a record is taken exactly
 //! when a reader at that cursor makes it of the bits that it names.
 
-use crate::capture::{unpack, Capture};
+use crate::capture::{unpack, Capture, Terms};
 use crate::fields::length;
 use crate::frame::{coding_holds, Frame};
 use crate::kinds::kind;
@@ -34,7 +34,7 @@ pub fn check(request: &Request, written: &Written) -> Result<(), String> {
                 context: before.answer.context,
             };
             let bits = 8 * request.buffer.len();
-            let due = number(rest, request.direction as usize, cursor, bits);
+            let due = number(rest, request.terms(), cursor, bits);
             match due == answer.number {
                 true => Ok(()),
                 false => Err(format!("{answer:?}, but by reading it is {due}")),
@@ -59,7 +59,7 @@ pub fn split(records: &[u8], index: u64) -> (&[u8], &[u8]) {
 fn reads_back(request: &Request, written: &Written) -> Result<(), String> {
     let from = request.position as usize;
     let to = written.answer.position as usize;
-    let capture = Capture::new(&written.buffer, to, request.direction as usize);
+    let capture = Capture::new(&written.buffer, to, request.terms());
     let cursor = Cursor {
         position: from,
         context: request.context,
@@ -79,8 +79,8 @@ fn reads_back(request: &Request, written: &Written) -> Result<(), String> {
 }
 
 /// The number that the record at the head of `rest` is due, 0 where it is taken.
-fn number(rest: &[u8], direction: usize, cursor: Cursor, bits: usize) -> u64 {
-    let Some((mut frame, verdict)) = named(rest, direction) else {
+fn number(rest: &[u8], terms: Terms, cursor: Cursor, bits: usize) -> u64 {
+    let Some((mut frame, verdict)) = named(rest, terms.direction) else {
         return 5;
     };
     let end = frame.end();
@@ -89,7 +89,7 @@ fn number(rest: &[u8], direction: usize, cursor: Cursor, bits: usize) -> u64 {
     let before = vec![false; cursor.position];
     let capture = Capture {
         bits: [before, frame.body.clone(), vec![true; frame.tail]].concat(),
-        direction,
+        terms,
     };
     match reading(&capture, cursor).next() {
         Some(item) if item == (Item::Frame { frame, verdict }) => 4 * u64::from(end > bits),

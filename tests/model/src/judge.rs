@@ -1,6 +1,6 @@
 //! One record judged for writing, cause by cause.
 
-use crate::capture::{DOWNLINK, UPLINK};
+use crate::capture::{Terms, DOWNLINK, UPLINK};
 use crate::causes::{held, Cause};
 use crate::fields::{length, Fields};
 use crate::frame::Frame;
@@ -12,7 +12,7 @@ const GAP: usize = 9;
 
 /// Every cause that the record at the head of `rest` gives at a cursor, in a buffer of so many
 /// bits. The causes of all three numbers are found, so that their order can be tried.
-pub fn judge(rest: &[u8], direction: usize, cursor: Cursor, bits: usize) -> Vec<Cause> {
+pub fn judge(rest: &[u8], terms: Terms, cursor: Cursor, bits: usize) -> Vec<Cause> {
     let causes = no_whole_record(rest);
     if !causes.is_empty() {
         return causes;
@@ -20,8 +20,8 @@ pub fn judge(rest: &[u8], direction: usize, cursor: Cursor, bits: usize) -> Vec<
     let fields = Fields::of(rest);
     let frame = fields.frame();
     [
-        unsound(&fields, direction),
-        not_due(&fields, &frame, cursor),
+        unsound(&fields, terms.direction),
+        not_due(&fields, &frame, terms.profile, cursor),
         past_buffer(&frame, bits),
     ]
     .concat()
@@ -95,12 +95,12 @@ fn unsound(fields: &Fields, direction: usize) -> Vec<Cause> {
 }
 
 /// 6: start, verdict, rule 2.
-fn not_due(fields: &Fields, frame: &Frame, cursor: Cursor) -> Vec<Cause> {
+fn not_due(fields: &Fields, frame: &Frame, profile: u8, cursor: Cursor) -> Vec<Cause> {
     let number = fields.kind;
     let searching = cursor.context == 0;
-    let wrong = frame.wrong_crcs(0).contains(&true);
-    let unchecked_6 = number == 6 && frame.unchecked(0);
-    let verdict = frame.verdict(cursor.context);
+    let wrong = frame.wrong_crcs(profile, 0).contains(&true);
+    let unchecked_6 = number == 6 && frame.unchecked(profile, 0);
+    let verdict = frame.verdict(profile, cursor.context);
     held(&[
         (Cause::Start, fields.start != cursor.position),
         (Cause::Verdict, fields.verdict != verdict),

@@ -15,9 +15,11 @@ const TABLE: [(usize, [usize; 2], usize); 8] = [
     (160, [0, 0], 0),
 ];
 
-/// The CRCs of a kind and mode (0: no mode), CRC1 first: the covered bits, then the CRC bits.
-const CRCS: [(usize, usize, &str); 12] = [
+/// The CRCs of a kind and mode (0: no mode), CRC1 first: the covered bits, then the CRC bits. For a
+/// kind 5 mode 1 stands for a class that carries a CRC.
+const CRCS: [(usize, usize, &str); 13] = [
     (1, 0, "D1..D44 CRC2 CRC1 CRC0"),
+    (5, 1, "C1..C5 D1..D51 D52..D54"),
     (6, 1, "C1..C5 s1..s16 s18 s19 s21..s29 s45..s48 D52..D54"),
     (6, 1, "D55..D59 s49 s50 D73..D75"),
     (6, 1, "s62 s63 s79..s82 D97..D99"),

@@ -21,6 +21,7 @@ pub mod record;
 pub mod requests;
 pub mod rng;
 pub mod rules;
+pub mod silence;
 pub mod spoil;
 pub mod stretches;
 pub mod sweeps;

@@ -1,7 +1,7 @@
 //! What the listing program and the C example have to print of a capture file: one byte of
 //! direction, then the channel's bits.
 
-use crate::capture::{Capture, LONGEST, UPLINK};
+use crate::capture::{Capture, Terms, LONGEST, UPLINK};
 use crate::kinds::kind;
 use crate::reading::{reading, Cursor, Item};
 use crate::record::record;
@@ -17,12 +17,14 @@ const NAMES: [&str; 8] = [
     "8 7,40",
 ];
 
-/// The capture of a file, or the number that refuses it.
-fn capture(file: &[u8]) -> Result<Capture, u8> {
+/// The capture of a file, read by a profile, or the number that refuses it.
+fn capture(file: &[u8], profile: u8) -> Result<Capture, u8> {
     match file.split_first() {
         Some((0 | 1, bits)) if bits.len() > LONGEST => Err(2),
         Some((&direction @ (0 | 1), bits)) => {
-            Ok(Capture::new(bits, 8 * bits.len(), direction as usize))
+            let direction = direction as usize;
+            let terms = Terms { direction, profile };
+            Ok(Capture::new(bits, 8 * bits.len(), terms))
         }
         _ => Err(1),
     }
@@ -45,16 +47,16 @@ pub fn list(file: &[u8]) -> String {
             format!("F {kind} {start} {tail} {verdict}\n")
         }
     };
-    match capture(file) {
+    match capture(file, 0) {
         Ok(capture) => items(&capture).iter().map(line).collect(),
         Err(number) => format!("R {number}\n"),
     }
 }
 
 /// The CSV: a heading, and a line for each record.
-pub fn csv(file: &[u8]) -> Result<String, u8> {
+pub fn csv(file: &[u8], profile: u8) -> Result<String, u8> {
     let mut text = String::from("kind,start,tail,control,extended,verdict,D\n");
-    for item in items(&capture(file)?) {
+    for item in items(&capture(file, profile)?) {
         match &item {
             Item::Gap { start, length } => text += &format!("0,{start},{length},,,,\n"),
             Item::Frame { frame, verdict } => {
@@ -109,14 +111,14 @@ fn row(name: &str, counts: Counts, has_check: bool) -> String {
 }
 
 /// The summary: items and their bits, and the counts of each kind.
-pub fn summary(file: &[u8]) -> Result<String, u8> {
-    let capture = capture(file)?;
+pub fn summary(file: &[u8], profile: u8) -> Result<String, u8> {
+    let capture = capture(file, profile)?;
     let items = items(&capture);
     let n = capture.n();
     let gaps: Vec<usize> = items.iter().filter_map(gap_length).collect();
     let gap_bits: usize = gaps.iter().sum();
     let all = sum(items.iter());
-    let direction = match capture.direction {
+    let direction = match capture.terms.direction {
         UPLINK => "uplink",
         _ => "downlink",
     };

@@ -3,8 +3,8 @@
 //! against itself, so that only a difference stops a run. Exit status: 0 no difference, 1 a
 //! difference or something never hit, 2 bad usage, 3 the model breaks its own rules.
 //!
-//! `model list|csv|summary FILE`: what the listing program and the C example have to print of a
-//! capture file. Exit status: 0, or 1 where a file has no such output, or 2.
+//! `model list FILE`, `model csv|summary FILE [PROFILE]`: what the listing program and the C example
+//! have to print of a capture file. Exit status: 0, or 1 where a file has no such output, or 2.
 
 mod client;
 mod compare;
@@ -54,7 +54,7 @@ fn options() -> Option<Options> {
 }
 
 /// What has to be printed of a capture file.
-fn print(what: &str, file: &str) -> ExitCode {
+fn print(what: &str, file: &str, profile: u8) -> ExitCode {
     let bytes = match std::fs::read(file) {
         Ok(bytes) => bytes,
         Err(error) => {
@@ -64,8 +64,8 @@ fn print(what: &str, file: &str) -> ExitCode {
     };
     let text = match what {
         "list" => Ok(listing::list(&bytes)),
-        "csv" => listing::csv(&bytes),
-        _ => listing::summary(&bytes),
+        "csv" => listing::csv(&bytes, profile),
+        _ => listing::summary(&bytes, profile),
     };
     match text {
         Ok(text) => {
@@ -82,13 +82,20 @@ fn print(what: &str, file: &str) -> ExitCode {
 fn main() -> ExitCode {
     let words: Vec<String> = std::env::args().skip(1).collect();
     let words: Vec<&str> = words.iter().map(String::as_str).collect();
-    if let [what @ ("list" | "csv" | "summary"), file] = words[..] {
-        return print(what, file);
+    match words[..] {
+        [what @ ("list" | "csv" | "summary"), file] => return print(what, file, 0),
+        [what @ ("csv" | "summary"), file, profile] => {
+            if let Ok(profile) = profile.parse() {
+                return print(what, file, profile);
+            }
+        }
+        _ => {}
     }
     let Some(options) = options() else {
         eprintln!(
             "model compare --calls N --seed S [--only CASE] [--no-own-checks] --client COMMAND..\n\
-             model list|csv|summary FILE"
+             model list FILE\n\
+             model csv|summary FILE [PROFILE]"
         );
         return ExitCode::from(2);
     };

@@ -1,12 +1,13 @@
 //! Frames made for captures: bodies with any allowed coding and right CRCs, and spoilt ones.
 
+use crate::capture::Terms;
 use crate::crc;
 use crate::frame::{coding_holds, Frame};
 use crate::kinds::kind;
 use crate::rng::Rng;
 
 /// A body of a kind whose coding holds and whose CRCs are right in a context.
-pub fn body(rng: &mut Rng, number: usize, direction: usize, context: u64) -> Vec<bool> {
+pub fn body(rng: &mut Rng, number: usize, terms: Terms, context: u64) -> Vec<bool> {
     let kind = kind(number);
     let ones = rng.of(&[0, 4_096, 32_768, 32_768, 32_768, 61_440, 65_536]);
     let mut body: Vec<bool> = (0..kind.body).map(|_| rng.parts(ones)).collect();
@@ -17,11 +18,11 @@ pub fn body(rng: &mut Rng, number: usize, direction: usize, context: u64) -> Vec
         for &i in kind.c.iter().chain(&kind.xc) {
             body[i] = rng.bit();
         }
-        if coding_holds(&body, kind, direction) {
+        if coding_holds(&body, kind, terms.direction) {
             break;
         }
     }
-    right_crcs(&mut body, number, context);
+    right_crcs(&mut body, number, terms.profile, context);
     body
 }
 
@@ -36,9 +37,8 @@ pub fn frame(number: usize, body: &[bool]) -> Frame {
 }
 
 /// Makes each CRC right in a context. A later CRC may cover no earlier one.
-pub fn right_crcs(body: &mut [bool], number: usize, context: u64) {
-    let mode = frame(number, body).mode(context);
-    for places in &kind(number).crcs[mode] {
+pub fn right_crcs(body: &mut [bool], number: usize, profile: u8, context: u64) {
+    for places in frame(number, body).crcs(profile, context) {
         let (covered, three) = places.split_at(places.len() - 3);
         let covered: Vec<bool> = covered.iter().map(|&i| body[i]).collect();
         for (&i, bit) in three.iter().zip(crc::of(&covered)) {
@@ -48,9 +48,8 @@ pub fn right_crcs(body: &mut [bool], number: usize, context: u64) {
 }
 
 /// Makes some CRCs of a context wrong, by one bit each.
-pub fn wrong_crcs(rng: &mut Rng, body: &mut [bool], number: usize, context: u64) {
-    let mode = frame(number, body).mode(context);
-    for places in &kind(number).crcs[mode] {
+pub fn wrong_crcs(rng: &mut Rng, body: &mut [bool], number: usize, profile: u8, context: u64) {
+    for places in frame(number, body).crcs(profile, context) {
         if rng.bit() {
             let i = places[places.len() - 1 - rng.below(3)];
             body[i] = !body[i];

@@ -1,7 +1,8 @@
 //! Paging: the refusals in their order, or the longest leading part of the reading that fits.
 
 use crate::answer::Answer;
-use crate::capture::{Capture, LONGEST};
+use crate::capture::{Capture, Terms, LONGEST};
+use crate::frame::{stands, Frame};
 use crate::reading::{reading, Cursor, Item};
 use crate::record::record;
 
@@ -11,6 +12,7 @@ pub struct Request {
     pub capture: Vec<u8>,
     pub n: u64,
     pub direction: u64,
+    pub profile: u8,
     pub position: u64,
     pub context: u64,
     pub most: u64,
@@ -55,6 +57,8 @@ pub struct Page {
     pub buffer: Vec<u8>,
     pub items: Vec<Item>,
     pub causes: Vec<Cause>,
+    /// The frame that stands at the cursor, an item or not.
+    pub standing: Option<Frame>,
 }
 
 /// The causes that the numbers alone give.
@@ -77,8 +81,11 @@ pub fn page(request: &Request) -> Page {
     if let Some(number) = causes.iter().map(|cause| cause.number()).min() {
         return refusal(request, number, causes);
     }
-    let direction = request.direction as usize;
-    let capture = Capture::new(&request.capture, request.n as usize, direction);
+    let terms = Terms {
+        direction: request.direction as usize,
+        profile: request.profile,
+    };
+    let capture = Capture::new(&request.capture, request.n as usize, terms);
     page_of(request, &capture)
 }
 
@@ -120,6 +127,7 @@ pub fn page_of(request: &Request, capture: &Capture) -> Page {
         buffer,
         items,
         causes: Vec::new(),
+        standing: stands(capture, request.position as usize),
     }
 }
 
@@ -129,5 +137,6 @@ fn refusal(request: &Request, number: u64, causes: Vec<Cause>) -> Page {
         buffer: request.buffer.clone(),
         items: Vec::new(),
         causes,
+        standing: None,
     }
 }

@@ -71,17 +71,19 @@ impl Reading<'_> {
         let context = self.cursor.context;
         let frame = stands(self.capture, self.cursor.position)?;
         let allowed = match context {
-            0 => frame.starts_run(),
+            0 => frame.starts_run(self.capture.terms.profile),
             _ => frame.follows(context),
         };
-        let verdict = frame.verdict(context);
+        let verdict = frame.verdict(self.capture.terms.profile, context);
         allowed.then_some(Item::Frame { frame, verdict })
     }
 
     fn gap_here(&self) -> Item {
         let start = self.cursor.position;
         let n = self.capture.n();
-        let starts = |p: &usize| stands(self.capture, *p).is_some_and(|frame| frame.starts_run());
+        let profile = self.capture.terms.profile;
+        let starts =
+            |p: &usize| stands(self.capture, *p).is_some_and(|frame| frame.starts_run(profile));
         let end = (start + 1..n).find(starts).unwrap_or(n);
         Item::Gap {
             start,

@@ -38,8 +38,8 @@ impl Lent {
         let mut borders = made.borders;
         borders.retain(|&p| p <= bits.len());
         borders.extend([0, bits.len()]);
-        let direction = made.direction;
-        let capture = Capture { bits, direction };
+        let terms = made.terms;
+        let capture = Capture { bits, terms };
         let mut lent = Lent {
             bytes,
             capture,
@@ -74,7 +74,11 @@ impl Lent {
     pub fn request(&self, rng: &mut Rng) -> Request {
         let cursor = self.cursor(rng);
         let other_way = rng.once_in(8);
-        let direction = self.capture.direction ^ usize::from(other_way);
+        let direction = self.capture.terms.direction ^ usize::from(other_way);
+        let profile = match rng.once_in(8) {
+            true => rng.draw() as u8,
+            false => self.capture.terms.profile,
+        };
         let length = self.buffer_length(rng, cursor);
         let fill = rng.draw() as u8;
         let buffer = match length < 1_000 && rng.bit() {
@@ -85,6 +89,7 @@ impl Lent {
             capture: self.bytes.clone(),
             n: self.capture.n() as u64,
             direction: direction as u64,
+            profile,
             position: cursor.position as u64,
             context: cursor.context,
             most: most(rng),

@@ -10,7 +10,8 @@ pub fn check(capture: &Capture, cursor: Cursor, items: &[Item]) -> Result<(), St
         mut position,
         mut context,
     } = cursor;
-    let starts_run = |p: usize| stands(capture, p).is_some_and(|frame| frame.starts_run());
+    let profile = capture.terms.profile;
+    let starts_run = |p: usize| stands(capture, p).is_some_and(|frame| frame.starts_run(profile));
     for item in items {
         let rule = |number: usize, holds: bool| match holds {
             true => Ok(()),
@@ -21,10 +22,10 @@ pub fn check(capture: &Capture, cursor: Cursor, items: &[Item]) -> Result<(), St
                 rule(1, frame.start == position)?;
                 rule(2, stands(capture, position).as_ref() == Some(frame))?;
                 match context {
-                    0 => rule(2, frame.starts_run())?,
+                    0 => rule(2, frame.starts_run(profile))?,
                     _ => rule(2, frame.follows(context))?,
                 }
-                rule(2, *verdict == frame.verdict(context))?;
+                rule(2, *verdict == frame.verdict(profile, context))?;
                 let body_end = position + frame.body.len();
                 let end = body_end + frame.tail;
                 rule(3, capture.bits[body_end..end].iter().all(|bit| *bit))?;

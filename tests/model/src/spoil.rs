@@ -15,13 +15,15 @@ pub fn spoil(rng: &mut Rng, stretch: &mut Stretch) {
         return;
     }
     let k = rng.below(stretch.records.len());
-    match rng.below(20) {
-        0..=12 => record(rng, &mut stretch.records[k], stretch.direction),
+    match rng.below(21) {
+        0..=12 => record(rng, &mut stretch.records[k], stretch.terms.direction),
         13 => cut(rng, &mut stretch.records, k),
         14 => stretch.records.insert(k, gap(rng, stretch.from.position)),
         15 => order(rng, &mut stretch.records, k),
         16 => stretch.records.push(vec![rng.of(&[0, 1, 5, 8, 9, 255])]),
-        17 => stretch.direction ^= 1,
+        17 => stretch.terms.direction ^= 1,
+        // The verdicts of silence frames are then those of another profile.
+        20 => stretch.terms.profile = rng.draw() as u8,
         18 => context(rng, stretch),
         _ => stretch.from.position = (stretch.from.position + rng.below(17)).saturating_sub(8),
     }
@@ -73,7 +75,7 @@ fn context(rng: &mut Rng, stretch: &mut Stretch) {
     stretch.from.context = rng.of(&[0, 0, 0, 1, 1, 2, 3, 4, 5]);
     let first = &mut stretch.records[0];
     if whole(first) && !rng.once_in(3) {
-        mend_verdict(first, stretch.from.context);
+        mend_verdict(first, stretch.terms.profile, stretch.from.context);
     }
 }
 
@@ -109,9 +111,9 @@ pub fn set_four(record: &mut [u8], at: usize, number: usize) {
     record[at..at + 4].copy_from_slice(&(number as u32).to_be_bytes());
 }
 
-/// Puts the verdict that is due in a context into the record of a frame.
-pub fn mend_verdict(record: &mut [u8], context: u64) {
-    record[11] = Fields::of(record).frame().verdict(context);
+/// Puts the verdict that is due by a profile in a context into the record of a frame.
+pub fn mend_verdict(record: &mut [u8], profile: u8, context: u64) {
+    record[11] = Fields::of(record).frame().verdict(profile, context);
 }
 
 /// Puts nonsense into one or more numbers or lengths of a request.

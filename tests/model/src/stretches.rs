@@ -1,7 +1,8 @@
 //! Records to be written from a cursor: frames that were read without a gap, and frames made by
 //! hand.
 
-use crate::capture::{Capture, LONGEST};
+use crate::capture::{Capture, Terms, LONGEST};
+use crate::families::terms;
 use crate::fields::length;
 use crate::frame::Frame;
 use crate::kinds::kind;
@@ -15,7 +16,7 @@ use crate::write::{Request, MOST};
 /// the last body ends.
 #[derive(Clone, Debug)]
 pub struct Stretch {
-    pub direction: usize,
+    pub terms: Terms,
     pub from: Cursor,
     pub to: Cursor,
     pub body_end: usize,
@@ -23,9 +24,9 @@ pub struct Stretch {
 }
 
 impl Stretch {
-    fn new(direction: usize, from: Cursor) -> Stretch {
+    fn new(terms: Terms, from: Cursor) -> Stretch {
         Stretch {
-            direction,
+            terms,
             from,
             to: from,
             body_end: from.position,
@@ -44,14 +45,14 @@ impl Stretch {
         let items: Vec<Item> = reading(capture, cursor).take(40).collect();
         let frames: Vec<usize> = (0..items.len()).filter(|&i| items[i].kind() != 0).collect();
         if frames.is_empty() {
-            return Stretch::new(capture.direction, cursor);
+            return Stretch::new(capture.terms, cursor);
         }
         let first = rng.of(&frames);
         let from = match first {
             0 => cursor,
             _ => items[first - 1].after(),
         };
-        let mut stretch = Stretch::new(capture.direction, from);
+        let mut stretch = Stretch::new(capture.terms, from);
         let run = items[first..].iter().take_while(|item| item.kind() != 0);
         for item in run.take(1 + rng.below(12)) {
             stretch.push(item);
@@ -68,7 +69,7 @@ impl Stretch {
             _ => 0,
         };
         let context = rng.below(6) as u64;
-        let mut stretch = Stretch::new(rng.below(2), Cursor { position, context });
+        let mut stretch = Stretch::new(terms(rng), Cursor { position, context });
         for _ in 0..rng.of(&[0, 1, 1, 1, 1, 2, 2, 3, 4, 8]) {
             let sloppy = rng.once_in(if stretch.to.context == 0 { 2 } else { 8 });
             let number = 1 + rng.below(8);
@@ -78,11 +79,11 @@ impl Stretch {
     }
 
     /// A frame of one kind from a context in which it is due.
-    pub fn single(rng: &mut Rng, number: usize, direction: usize) -> Stretch {
+    pub fn single(rng: &mut Rng, number: usize, terms: Terms) -> Stretch {
         let position = rng.below(40);
         let context = rng.of(&[0, 1, 2, 3, 4, 5]);
         let context = if number == 8 { context.max(2) } else { context };
-        let mut stretch = Stretch::new(direction, Cursor { position, context });
+        let mut stretch = Stretch::new(terms, Cursor { position, context });
         while stretch.records.is_empty() {
             stretch.add(rng, number, false);
         }
@@ -93,7 +94,7 @@ impl Stretch {
     pub fn full(rng: &mut Rng) -> Stretch {
         let position = rng.below(9);
         let context = 1 + rng.below(5) as u64;
-        let mut stretch = Stretch::new(rng.below(2), Cursor { position, context });
+        let mut stretch = Stretch::new(terms(rng), Cursor { position, context });
         let mut left = MOST + rng.of(&[0, 0, 0, 1, 2, 26]) - rng.of(&[0, 0, 0, 1]);
         // From 650 on each number is a sum of 26 and 27, the lengths of kinds 1 and 3.
         while left >= 750 {
@@ -120,24 +121,24 @@ impl Stretch {
         } else {
             context
         };
-        let mut body = body(rng, number, self.direction, checked_by);
+        let mut body = body(rng, number, self.terms, checked_by);
         if (context != 0 || sloppy) && rng.once_in(3) {
-            wrong_crcs(rng, &mut body, number, checked_by);
+            wrong_crcs(rng, &mut body, number, self.terms.profile, checked_by);
         }
         let frame = Frame {
             kind: number,
             start: self.to.position,
-            tail: tail(rng, number, self.direction),
+            tail: tail(rng, number, self.terms.direction),
             body,
         };
         let allowed = match context {
-            0 => frame.starts_run(),
+            0 => frame.starts_run(self.terms.profile),
             _ => frame.follows(context),
         };
         if !allowed && !sloppy {
             return 0;
         }
-        let verdict = frame.verdict(context);
+        let verdict = frame.verdict(self.terms.profile, context);
         self.push(&Item::Frame { frame, verdict });
         length(number)
     }
@@ -165,7 +166,8 @@ impl Stretch {
         };
         Request {
             records: self.records.concat(),
-            direction: self.direction as u64,
+            direction: self.terms.direction as u64,
+            profile: self.terms.profile,
             position: self.from.position as u64,
             context: self.from.context,
             buffer,

@@ -1,5 +1,6 @@
 //! Sweeps: a record that is due, and requests with every value of one of its fields.
 
+use crate::capture::Terms;
 use crate::rng::Rng;
 use crate::spoil::{mend_verdict, set_four};
 use crate::stretches::Stretch;
@@ -16,9 +17,10 @@ enum Field {
     Length,
     Tail,
     Cursor,
+    Profile,
 }
 
-const FIELDS: [Field; 8] = [
+const FIELDS: [Field; 9] = [
     Field::Kind,
     Field::Control,
     Field::Extended,
@@ -27,6 +29,7 @@ const FIELDS: [Field; 8] = [
     Field::Length,
     Field::Tail,
     Field::Cursor,
+    Field::Profile,
 ];
 
 /// One sweep for each kind, direction and field.
@@ -34,8 +37,13 @@ pub const SWEEPS: usize = 8 * 2 * FIELDS.len();
 
 /// The requests of a sweep, whose number is below `SWEEPS`.
 pub fn sweep(rng: &mut Rng, index: usize) -> Vec<Request> {
-    let field = FIELDS[index % 8];
-    let stretch = Stretch::single(rng, 1 + index / 8 % 8, index / 64);
+    let field = FIELDS[index % FIELDS.len()];
+    let kind_and_direction = index / FIELDS.len();
+    let terms = Terms {
+        direction: kind_and_direction / 8,
+        profile: rng.draw() as u8,
+    };
+    let stretch = Stretch::single(rng, 1 + kind_and_direction % 8, terms);
     let whole = Request {
         buffer: vec![rng.draw() as u8; stretch.to.position.div_ceil(8) + rng.below(2)],
         ..stretch.lend(rng)
@@ -50,7 +58,7 @@ pub fn sweep(rng: &mut Rng, index: usize) -> Vec<Request> {
     let set_and_mend = |(at, value)| {
         with(&|request| {
             request.records[at] = value;
-            mend_verdict(&mut request.records, request.context);
+            mend_verdict(&mut request.records, request.profile, request.context);
         })
     };
     match field {
@@ -75,9 +83,12 @@ pub fn sweep(rng: &mut Rng, index: usize) -> Vec<Request> {
                 with(&|request| {
                     request.position = (request.position + step).saturating_sub(2);
                     request.context = context;
-                    mend_verdict(&mut request.records, context);
+                    mend_verdict(&mut request.records, request.profile, context);
                 })
             })
+            .collect(),
+        Field::Profile => (0..=255)
+            .map(|profile| with(&|request| request.profile = profile))
             .collect(),
     }
 }

@@ -1,7 +1,7 @@
 //! Writing: the refusals in their order, or body and tail of each record in the buffer.
 
 use crate::answer::Answer;
-use crate::capture::{pack, unpack, LONGEST};
+use crate::capture::{pack, unpack, Terms, LONGEST};
 use crate::causes::{first, held, Cause};
 use crate::fields::{length, Fields};
 use crate::frame::Frame;
@@ -13,9 +13,20 @@ use crate::reading::Cursor;
 pub struct Request {
     pub records: Vec<u8>,
     pub direction: u64,
+    pub profile: u8,
     pub position: u64,
     pub context: u64,
     pub buffer: Vec<u8>,
+}
+
+impl Request {
+    /// The terms of a request whose direction there is.
+    pub fn terms(&self) -> Terms {
+        Terms {
+            direction: self.direction as usize,
+            profile: self.profile,
+        }
+    }
 }
 
 /// What writing does: the answer, the buffer after the call, the frames written, each with the
@@ -47,7 +58,7 @@ pub fn write(request: &Request) -> Written {
     if !causes.is_empty() {
         return refusal(request, 0, causes);
     }
-    let direction = request.direction as usize;
+    let terms = request.terms();
     let mut cursor = Cursor {
         position: request.position as usize,
         context: request.context,
@@ -56,7 +67,7 @@ pub fn write(request: &Request) -> Written {
     let mut frames = Vec::new();
     let mut rest = &request.records[..];
     while !rest.is_empty() {
-        let causes = judge(rest, direction, cursor, bits.len());
+        let causes = judge(rest, terms, cursor, bits.len());
         if !causes.is_empty() {
             return refusal(request, frames.len() as u64, causes);
         }

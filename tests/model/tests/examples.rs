@@ -1,6 +1,6 @@
 //! The examples of the specification with their numbers, and its tables counted.
 
-use model::capture::{Capture, DOWNLINK, UPLINK};
+use model::capture::{Capture, Terms, DOWNLINK, UPLINK};
 use model::crc;
 use model::kinds::kind;
 use model::page::{page, Request};
@@ -24,8 +24,8 @@ fn z() -> Vec<u8> {
 }
 
 /// The whole reading from bit 0 in context 0, which keeps rules 1 to 4.
-fn read(bytes: &[u8], n: usize, direction: usize) -> Vec<Item> {
-    let capture = Capture::new(bytes, n, direction);
+fn read(bytes: &[u8], n: usize, terms: Terms) -> Vec<Item> {
+    let capture = Capture::new(bytes, n, terms);
     let start = Cursor {
         position: 0,
         context: 0,
@@ -37,13 +37,17 @@ fn read(bytes: &[u8], n: usize, direction: usize) -> Vec<Item> {
 
 /// Items as the listing program writes them.
 fn list(bytes: &[u8], n: usize, direction: usize) -> Vec<String> {
+    list_by(bytes, n, Terms::of(direction))
+}
+
+fn list_by(bytes: &[u8], n: usize, terms: Terms) -> Vec<String> {
     let line = |item: &Item| match item {
         Item::Gap { start, length } => format!("G {start} {length}"),
         Item::Frame { frame, verdict } => {
             format!("F {} {} {} {verdict}", frame.kind, frame.start, frame.tail)
         }
     };
-    read(bytes, n, direction).iter().map(line).collect()
+    read(bytes, n, terms).iter().map(line).collect()
 }
 
 fn bits(text: &str) -> Vec<bool> {
@@ -77,7 +81,7 @@ fn p6_and_p7() {
 fn p8_to_p10() {
     let ff_h = [vec![0xFF], h()].concat();
     assert_eq!(list(&ff_h, 168, DOWNLINK), ["G 0 8", "F 1 8 2 0"]);
-    let record = record(&read(&ff_h, 168, DOWNLINK)[1]);
+    let record = record(&read(&ff_h, 168, Terms::of(DOWNLINK))[1]);
     assert_eq!(record[..12], [1, 0, 0, 0, 8, 0, 0, 0, 2, 0x1F, 0x07, 0]);
     assert_eq!(record[12..], [0; 14]);
     assert_eq!(list(&ff_h, 166, DOWNLINK), ["G 0 8", "F 1 8 0 0"]);
@@ -109,6 +113,7 @@ fn request() -> Request {
         capture: h(),
         n: 160,
         direction: 1,
+        profile: 0,
         position: 0,
         context: 0,
         most: 1,
@@ -252,4 +257,39 @@ fn lengths_of_covered_lists() {
     assert_eq!(lengths(6, 3), [34]);
     assert_eq!(lengths(7, 0), [35]);
     assert_eq!(lengths(8, 0), [37]);
+}
+
+/// A No_Speech frame of class 4, downlink: of D1..D51 only D8 is one. D52..D54 are 101 where the
+/// CRC is right, by hand: X^58 + X^46 + X^2 + 1 divided by X^3 + X + 1 leaves X^2 + X + 1, since
+/// the powers of X repeat after seven.
+fn silence(d52_to_d54: u8) -> Vec<u8> {
+    let mut bytes = vec![0x00, 0x80, 0xC2, 0x40, 0x80, 0x80, 0x80, 0x80, 0x80];
+    bytes.push(0x80 | d52_to_d54 << 3);
+    bytes.extend([0x80; 9]);
+    bytes.push(0x83);
+    bytes
+}
+
+#[test]
+fn silence_frames_by_their_class() {
+    let down = |profile: u8| Terms {
+        direction: DOWNLINK,
+        profile,
+    };
+    let run = [silence(0b101), silence(0b100)].concat();
+    for profile in 0..=255 {
+        let lines = list_by(&run, 320, down(profile));
+        match profile & 0b0001_0000 {
+            0 => assert_eq!(lines, ["F 5 0 2 128", "F 5 160 2 128"]),
+            _ => assert_eq!(lines, ["F 5 0 2 0", "F 5 160 2 1"]),
+        }
+    }
+    let wrong: Vec<u8> = (0..8).filter(|crc| *crc != 0b101).collect();
+    for crc in wrong {
+        assert_eq!(list_by(&silence(crc), 160, down(0b0001_0000)), ["G 0 160"]);
+        assert_eq!(
+            list_by(&silence(crc), 160, down(0b1110_1111)),
+            ["F 5 0 2 128"]
+        );
+    }
 }

@@ -1,6 +1,6 @@
 //! Records of every kind, direction, coding and context, written by brute force.
 
-use model::capture::{DOWNLINK, UPLINK};
+use model::capture::{Terms, DOWNLINK, UPLINK};
 use model::fields::Fields;
 use model::inverse::{check, named};
 use model::judge::judge;
@@ -13,7 +13,7 @@ use model::write::write;
 
 /// Whether a record is sound: exactly where some frame has it, which the fields then name.
 fn sound(record: &[u8], direction: usize, cursor: Cursor) -> bool {
-    let causes = judge(record, direction, cursor, 1 << 40);
+    let causes = judge(record, Terms::of(direction), cursor, 1 << 40);
     let sound = causes.iter().all(|cause| cause.number() != 5);
     let frame = named(record, direction).map(|found| found.0);
     assert_eq!(sound, frame.is_some(), "{record:?}");
@@ -30,7 +30,7 @@ fn every_control_and_extended() {
     let mut extended = Vec::new();
     for number in 1..=8 {
         for direction in [UPLINK, DOWNLINK] {
-            let stretch = Stretch::single(rng, number, direction);
+            let stretch = Stretch::single(rng, number, Terms::of(direction));
             let record = &stretch.records[0];
             let count = |at: usize, other: usize, value: u8| {
                 let mut record = record.clone();
@@ -63,7 +63,7 @@ fn one_verdict_is_due() {
     let rng = &mut Rng::new(2, 2);
     for number in 1..=8 {
         for direction in [UPLINK, DOWNLINK] {
-            let stretch = Stretch::single(rng, number, direction);
+            let stretch = Stretch::single(rng, number, Terms::of(direction));
             for context in 0..=5 {
                 let cursor = Cursor {
                     context,
@@ -72,7 +72,7 @@ fn one_verdict_is_due() {
                 let mut record = stretch.records[0].clone();
                 let taken = (0..=255).filter(|&verdict| {
                     record[11] = verdict;
-                    judge(&record, direction, cursor, 1 << 40).is_empty()
+                    judge(&record, Terms::of(direction), cursor, 1 << 40).is_empty()
                 });
                 let taken = taken.count();
                 assert!(taken <= 1);

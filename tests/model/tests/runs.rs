@@ -1,6 +1,6 @@
 //! The readings that were seen to go wrong, and the tails, on frames made for it.
 
-use model::capture::Capture;
+use model::capture::{Capture, Terms};
 use model::frame::stands;
 use model::kinds::kind;
 use model::make::{body, right_crcs};
@@ -9,17 +9,18 @@ use model::rng::Rng;
 
 /// A kind 6 with these C1..C5, its CRCs right in a context, and a tail of 1.
 fn lower(rng: &mut Rng, c: [bool; 5], context: u64) -> Vec<bool> {
-    let mut bits = body(rng, 6, 0, 0);
+    let mut bits = body(rng, 6, Terms::of(0), 0);
     for (&i, bit) in kind(6).c.iter().zip(c) {
         bits[i] = bit;
     }
-    right_crcs(&mut bits, 6, context);
+    right_crcs(&mut bits, 6, 0, context);
     bits.push(true);
     bits
 }
 
 fn capture(bits: Vec<bool>, direction: usize) -> Capture {
-    Capture { bits, direction }
+    let terms = Terms::of(direction);
+    Capture { bits, terms }
 }
 
 /// Kind, verdict (0 for a gap) and context behind each item.
@@ -63,9 +64,9 @@ fn what_starts_a_run() {
     wrong[kind(6).d[51]] ^= true;
     assert_eq!(items(&capture(wrong.clone(), 1), 0), [(0, 0, 0)]);
     assert_eq!(items(&capture(wrong, 1), 5), [(6, 0x11, 3)]);
-    let five = body(rng, 5, 1, 0);
+    let five = body(rng, 5, Terms::of(1), 0);
     assert_eq!(items(&capture(five, 1), 0), [(5, 0x80, 2)]);
-    let eight = body(rng, 8, 1, 0);
+    let eight = body(rng, 8, Terms::of(1), 0);
     let by_context = [
         (0, 0, 0),
         (0, 0, 0),
@@ -88,7 +89,7 @@ fn least_tails() {
             let least = kind(number).least_tail[direction];
             for tail in 0..5 {
                 for behind in [vec![], vec![false]] {
-                    let mut bits = body(rng, number, direction, 0);
+                    let mut bits = body(rng, number, Terms::of(direction), 0);
                     bits.extend(vec![true; tail]);
                     bits.extend(behind);
                     let frame = stands(&capture(bits, direction), 0);
@@ -104,7 +105,7 @@ fn least_tails() {
 fn a_bit_error_in_a_fixed_bit_is_no_frame() {
     let rng = &mut Rng::new(1, 4);
     for number in 1..=8 {
-        let mut bits = body(rng, number, 0, 0);
+        let mut bits = body(rng, number, Terms::of(0), 0);
         bits.extend([true, true]);
         assert!(stands(&capture(bits.clone(), 0), 0).is_some());
         for &(i, _) in &kind(number).fixed {

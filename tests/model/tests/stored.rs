@@ -40,12 +40,22 @@ fn listings() {
     }
 }
 
+/// The capture and the profile of a stored harvest: NAME, or NAME@PROFILE.
+fn harvested(name: &str) -> (Vec<u8>, u8) {
+    match name.split_once('@') {
+        Some((name, profile)) => (capture(name), profile.parse().expect("a profile")),
+        None => (capture(name), 0),
+    }
+}
+
 #[test]
 fn harvests() {
     for (name, text) in stored("harvest", "out") {
-        assert_eq!(listing::summary(&capture(&name)), Ok(text), "{name}");
+        let (file, profile) = harvested(&name);
+        assert_eq!(listing::summary(&file, profile), Ok(text), "{name}");
     }
     for (name, text) in stored("harvest", "csv") {
-        assert_eq!(listing::csv(&capture(&name)), Ok(text), "{name}");
+        let (file, profile) = harvested(&name);
+        assert_eq!(listing::csv(&file, profile), Ok(text), "{name}");
     }
 }

@@ -1,7 +1,7 @@
 //! Writing: the examples of the specification written back, and each cause of a refusal once.
 
 use model::answer::Answer;
-use model::capture::{Capture, DOWNLINK, UPLINK};
+use model::capture::{Capture, Terms, DOWNLINK, UPLINK};
 use model::causes::{Cause, CAUSES};
 use model::inverse::check;
 use model::kinds::kind;
@@ -28,7 +28,7 @@ fn seven_z() -> Vec<u8> {
 
 /// The records of a capture's reading from a position in context 0.
 fn records(bytes: &[u8], position: usize, n: usize, direction: usize) -> Vec<u8> {
-    let capture = Capture::new(bytes, n, direction);
+    let capture = Capture::new(bytes, n, Terms::of(direction));
     let cursor = Cursor {
         position,
         context: 0,
@@ -41,6 +41,7 @@ fn request(records: Vec<u8>, direction: usize, position: u64, buffer: Vec<u8>) -
     Request {
         records,
         direction: direction as u64,
+        profile: 0,
         position,
         context: 0,
         buffer,
