@@ -4,7 +4,7 @@ ghost use Rattle.call.specs.Call.{termsBy, next, refusedAt};
 use channel::Direction;
 use channel::Terms;
 
-// What is agreed of a capture besides its bits: its direction and its profile, of which every byte is one.
+// What is agreed of a capture besides its bits: its direction, and its profile, which may be any byte.
 pub struct TermNumbers {
     pub direction: u64,
     pub profile: u8,

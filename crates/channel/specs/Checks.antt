@@ -56,7 +56,7 @@ checks590 = (cPlaces Low ++ s s590 (upto 1 17 ++ upto 27 34 ++ upto 48 51) ++ d 
 abbrev pub checksLower : ℕ → List (List ℕ)
 checksLower mode = getD ([] ∷ checks475 ∷ checks515 ∷ checks590 ∷ []) mode []
 
--- kind 5, of a class that carries it: CRC1 (D52) over C1..C5, D1..D51
+-- kind 5, of a class that carries it: CRC1 (D52) over C1..C5, D1..D51 (5.2.4.2.1; document 02, Ask 1)
 abbrev pub checksSilence : List (List ℕ)
 checksSilence = (cPlaces Low ++ d NoSpeech (upto 1 51 ++ upto 52 54)) ∷ []
 

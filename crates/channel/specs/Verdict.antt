@@ -33,11 +33,11 @@ contextMode x = getD (0 ∷ 0 ∷ 0 ∷ 1 ∷ 2 ∷ 3 ∷ []) x 0
 abbrev pub modeOf : Context → Word → Kind → ℕ
 modeOf x g k = cond (eqb (kindNo k) 6) (cond (eqb (ownMode g) 0) (contextMode x) (ownMode g)) 0
 
--- the class of a kind 5: its own D8..D10 as a number, D8 on top
+-- the class of a kind 5: its own D8..D10 as a number, D8 on top (document 02, Ask 1)
 abbrev pub classOf : Word → ℕ
 classOf g = number (bitsAt g (d NoSpeech (upto 8 10)))
 
--- a kind 5 of a class that carries a CRC: bit k of the profile, 0 the lowest, is set for class k
+-- a kind 5 of a class that carries a CRC: bit k of the profile, 0 the lowest, is set for class k (document 02, Ask 1)
 abbrev pub carries : Terms → Word → Kind → Bool
 carries t g k = eqb (kindNo k) 5 && eqb (t .profile / 2 ^ classOf g % 2) 1
 
