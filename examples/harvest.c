@@ -1,4 +1,4 @@
-/* harvest [up|down] FILE [PAGE_BYTES] [--profile N] [--csv]: reads a capture to its end, page by page, and prints what is in it.
+/* harvest [up|down] FILE [PAGE_BYTES] [--profile N] [--follow SECONDS] [--csv]: reads a capture to its end, page by page, and prints what is in it.
  *
  * FILE is a capture file: one byte of direction, 0 for uplink or 1 for downlink, and then the channel's bits, the first bit sent being the top bit of the
  * first byte. Behind the word up or down, FILE holds the bits alone. n is eight times their bytes. PAGE_BYTES is the size of a page, 4096 if none is given.
@@ -17,17 +17,25 @@
  * With --csv it prints instead a heading and one line for each record, in decimal but for the D bits: those are in hexadecimal, as they stand in the
  * record. A gap is kind 0; it has its length for a tail, and the rest is empty.
  *
- * Exit status: 0 the capture was read to its end; 1 a page was refused, and standard error says why (lines of earlier pages stand); 2 bad usage, FILE
- * cannot be read, no memory for a page, or the output cannot be written. */
+ * --follow SECONDS, a whole number, harvests a FILE that still grows, as tail -f reads one. It takes each record once it is settled, when more bits can
+ * no longer change it, and prints its line at once. When FILE has not grown for SECONDS, or at SIGINT or SIGTERM, it looks a last time and takes the
+ * rest. By then it has printed what a harvest of FILE prints, in whatever steps it grew; the summary comes at the end. 0 seconds are as without --follow.
+ *
+ * Exit status: 0 the capture was read to its end; 1 a page was refused, and standard error says why (lines of earlier pages stand, also where FILE grows
+ * too long while it is followed); 2 bad usage, FILE cannot be read, no memory for a page, or the output cannot be written. */
+#define _POSIX_C_SOURCE 200809L /* for sigaction and nanosleep */
+
 #include "bellrope.h"
 
 #include <errno.h>
 #include <inttypes.h>
+#include <signal.h>
 #include <stdio.h>
 #include <stdlib.h>
 #include <string.h>
+#include <time.h>
 
-enum { KINDS = BELLROPE_AMR_740 + 1 };
+enum { KINDS = BELLROPE_AMR_740 + 1, STEPS = 50 /* of waiting, in a second */ };
 
 /* The counts of one kind; of gaps, only the items. */
 typedef struct {
@@ -107,39 +115,6 @@ static void explain(uint64_t number, const char *file, size_t page_bytes) {
 	else fprintf(stderr, "bellrope.h says what that means. It should not happen here.\n");
 }
 
-/* The harvest: page after page, until the cursor stands at n. Answers the number of the refusal, or 0. */
-static uint64_t harvest(bellrope_capture capture, uint8_t *page, size_t page_bytes, summary *s, int csv) {
-	bellrope_cursor cursor = bellrope_begin();
-	bellrope_record record;
-	int first = 1;
-	do {
-		bellrope_answer answer = bellrope_next(capture, &cursor, UINT64_MAX, page, page_bytes);
-		if (answer.number != BELLROPE_TAKEN) return answer.number;
-		if (csv && first) print_heading();
-		first = 0;
-		for (size_t at = 0; bellrope_walk(page, answer.bytes, &at, &record);) {
-			if (csv) print_record(&record);
-			else count(s, &record);
-		}
-	} while (cursor.position != capture.n);
-	return BELLROPE_TAKEN;
-}
-
-/* Reads a file, up to `most` bytes. Answers 0 if it cannot be read. */
-static int read_file(const char *file, uint8_t *bytes, size_t most, size_t *len) {
-	FILE *f = fopen(file, "rb");
-	if (!f) return 0;
-	*len = fread(bytes, 1, most, f);
-	int bad = ferror(f);
-	return fclose(f) == 0 && !bad;
-}
-
-/* The capture in the bytes of a capture file. One without a byte of direction gets none that the library takes. */
-static bellrope_capture capture_in(const uint8_t *bytes, size_t len) {
-	if (len == 0) return bellrope_capture_of(bytes, 0, 0, UINT64_MAX);
-	return bellrope_capture_of(bytes + 1, len - 1, 8 * (uint64_t)(len - 1), bytes[0]);
-}
-
 /* Reads a size in decimal; answers 0 if the word is none. */
 static int read_size(const char *word, size_t *size) {
 	char *end;
@@ -153,7 +128,7 @@ typedef struct {
 	const char *words[3]; /* up or down, FILE, PAGE_BYTES, as far as they are given */
 	int count;            /* of them */
 	int up, down, csv;
-	size_t page_bytes, profile;
+	size_t page_bytes, profile, seconds;
 } request;
 
 /* Takes up or down from the words, and the size of a page. Answers 0 if there is no FILE or a word too many. */
@@ -169,12 +144,13 @@ static int read_places(request *r) {
 
 /* Reads the command line; answers 0 if it is none. */
 static int read_words(int argc, char **argv, request *r) {
-	int profiled = 0;
+	int profiled = 0, followed = 0;
 	*r = (request){.page_bytes = 4096};
 	for (int i = 1; i < argc; i++) {
+		const char *next = i + 1 < argc ? argv[i + 1] : "";
 		if (strcmp(argv[i], "--csv") == 0 && !r->csv) r->csv = 1;
-		else if (strcmp(argv[i], "--profile") == 0 && !profiled && i + 1 < argc && read_size(argv[i + 1], &r->profile) && r->profile <= UINT8_MAX)
-			profiled = 1, i++;
+		else if (strcmp(argv[i], "--profile") == 0 && !profiled && read_size(next, &r->profile) && r->profile <= UINT8_MAX) profiled = 1, i++;
+		else if (strcmp(argv[i], "--follow") == 0 && !followed && read_size(next, &r->seconds)) followed = 1, i++;
 		else if (strncmp(argv[i], "--", 2) != 0 && r->count < 3) r->words[r->count++] = argv[i];
 		else return 0;
 	}
@@ -182,36 +158,129 @@ static int read_words(int argc, char **argv, request *r) {
 }
 
 static int usage(void) {
-	fprintf(stderr, "usage: harvest [up|down] FILE [PAGE_BYTES] [--profile N] [--csv], N from 0 to 255\n");
+	fprintf(stderr, "usage: harvest [up|down] FILE [PAGE_BYTES] [--profile N] [--follow SECONDS] [--csv], N from 0 to 255\n");
 	return 2;
 }
 
-int main(int argc, char **argv) {
-	static uint8_t bytes[BELLROPE_BYTES_MOST + 2]; /* direction, and one byte more than a capture may have: the library then refuses it */
-	static summary s;
+/* A harvest under way. */
+typedef struct {
 	request r;
-	size_t len;
-	if (!read_words(argc, argv, &r)) return usage();
-	const char *file = r.words[0];
-	if (!read_file(file, bytes, sizeof bytes, &len)) {
-		fprintf(stderr, "harvest: %s cannot be read: %s\n", file, strerror(errno));
-		return 2;
-	}
-	uint8_t *page = malloc(r.page_bytes);
-	if (!page && r.page_bytes) {
-		fprintf(stderr, "harvest: there is no memory for a page of %zu bytes. Give fewer.\n", r.page_bytes);
-		return 2;
-	}
-	bellrope_capture capture = capture_in(bytes, len);
-	if (r.up || r.down) capture = bellrope_capture_of(bytes, len, 8 * (uint64_t)len, r.down ? BELLROPE_DOWNLINK : BELLROPE_UPLINK);
-	capture.profile = (uint8_t)r.profile;
-	uint64_t number = harvest(capture, page, r.page_bytes, &s, r.csv);
-	free(page);
-	if (number == BELLROPE_TAKEN && !r.csv) print_summary(&s, capture);
-	if (fflush(stdout) || ferror(stdout)) {
+	FILE *file;
+	uint8_t bytes[BELLROPE_BYTES_MOST + 2]; /* of FILE: direction, and one byte more than a capture may have: the library then refuses it */
+	size_t len;                             /* of them, so far */
+	uint8_t *page;
+	bellrope_cursor cursor;
+	int headed;      /* whether the heading is printed */
+	sigset_t enders; /* the signals that end the following; none without it */
+	summary s;
+} harvest;
+
+/* What was read of FILE as a capture. One without a byte of direction gets none that the library takes. */
+static bellrope_capture capture_of(const harvest *h) {
+	size_t at = h->r.up || h->r.down || h->len == 0 ? 0 : 1;
+	uint64_t direction = h->len == 0 ? UINT64_MAX : h->bytes[0];
+	if (h->r.up) direction = BELLROPE_UPLINK;
+	if (h->r.down) direction = BELLROPE_DOWNLINK;
+	bellrope_capture capture = bellrope_capture_of(h->bytes + at, h->len - at, 8 * (uint64_t)(h->len - at), direction);
+	capture.profile = (uint8_t)h->r.profile;
+	return capture;
+}
+
+/* Pages from the cursor until a page has no item: all to n, or what is settled. Answers the number of the refusal, or 0. */
+static uint64_t take(harvest *h, bellrope_capture capture, int all) {
+	bellrope_answer answer;
+	bellrope_record record;
+	do {
+		answer = (all ? bellrope_next : bellrope_settled)(capture, &h->cursor, UINT64_MAX, h->page, h->r.page_bytes);
+		if (answer.number != BELLROPE_TAKEN) return answer.number;
+		if (h->r.csv && !h->headed) print_heading();
+		h->headed = 1;
+		for (size_t at = 0; bellrope_walk(h->page, answer.bytes, &at, &record);) {
+			if (h->r.csv) print_record(&record);
+			else count(&h->s, &record);
+		}
+	} while (answer.items != 0);
+	return BELLROPE_TAKEN;
+}
+
+/* One look at what was read: takes what is settled, or all, and hands out what is to be printed. Answers the exit status that this gives. */
+static int look(harvest *h, int all) {
+	bellrope_capture capture = capture_of(h);
+	uint64_t number = BELLROPE_TAKEN;
+	int directed = h->r.up || h->r.down || h->len != 0; /* else the byte of direction may still come */
+	sigprocmask(SIG_BLOCK, &h->enders, NULL);           /* or one would cut the output short where that waits for its reader */
+	if (directed || all) number = take(h, capture, all);
+	if (number == BELLROPE_TAKEN && all && !h->r.csv) print_summary(&h->s, capture);
+	int unwritten = fflush(stdout) || ferror(stdout);
+	sigprocmask(SIG_UNBLOCK, &h->enders, NULL);
+	if (unwritten) {
 		fprintf(stderr, "harvest: the output cannot be written: %s\n", strerror(errno));
 		return 2;
 	}
-	if (number != BELLROPE_TAKEN) explain(number, file, r.page_bytes);
+	if (number != BELLROPE_TAKEN) explain(number, h->r.words[0], h->r.page_bytes);
 	return number == BELLROPE_TAKEN ? 0 : 1;
+}
+
+/* Reads what FILE has more by now. Answers 0 if it cannot be read. A signal that cuts this short is no failure: the last look reads on. */
+static int read_more(harvest *h) {
+	h->len += fread(h->bytes + h->len, 1, sizeof h->bytes - h->len, h->file);
+	int bad = ferror(h->file) && errno != EINTR;
+	clearerr(h->file); /* the end of FILE is not its end for good */
+	return !bad;
+}
+
+static int unreadable(const char *file) {
+	fprintf(stderr, "harvest: %s cannot be read: %s\n", file, strerror(errno));
+	return 2;
+}
+
+static volatile sig_atomic_t ended;
+
+static void end(int number) {
+	(void)number;
+	ended = 1;
+}
+
+/* Lets SIGINT and SIGTERM end the following, even where they are ignored, as in what a shell starts in the background. */
+static void catch_signals(sigset_t *enders) {
+	struct sigaction action = {.sa_handler = end};
+	sigemptyset(&action.sa_mask);
+	sigaddset(enders, SIGINT);
+	sigaddset(enders, SIGTERM);
+	sigaction(SIGINT, &action, NULL);
+	sigaction(SIGTERM, &action, NULL);
+}
+
+/* The harvest: looks while FILE grows, until it has not for the seconds asked or a signal comes, and then the last look, which takes the rest. Without
+ * --follow the last is the only one. Answers the exit status. */
+static int run(harvest *h) {
+	const struct timespec step = {.tv_nsec = 1000000000 / STEPS};
+	for (uint64_t quiet = 0; !ended && quiet / STEPS < h->r.seconds; quiet++) {
+		size_t had = h->len;
+		if (!read_more(h)) return unreadable(h->r.words[0]);
+		if (h->len > had) quiet = 0;
+		int status = quiet == 0 ? look(h, 0) : 0;
+		if (status != 0) return status;
+		nanosleep(&step, NULL);
+	}
+	return read_more(h) ? look(h, 1) : unreadable(h->r.words[0]);
+}
+
+int main(int argc, char **argv) {
+	static harvest h;
+	if (!read_words(argc, argv, &h.r)) return usage();
+	sigemptyset(&h.enders);
+	if (h.r.seconds != 0) catch_signals(&h.enders);
+	h.cursor = bellrope_begin();
+	h.file = fopen(h.r.words[0], "rb");
+	if (!h.file) return unreadable(h.r.words[0]);
+	h.page = malloc(h.r.page_bytes);
+	if (!h.page && h.r.page_bytes) {
+		fprintf(stderr, "harvest: there is no memory for a page of %zu bytes. Give fewer.\n", h.r.page_bytes);
+		return 2;
+	}
+	int status = run(&h);
+	free(h.page);
+	fclose(h.file);
+	return status;
 }

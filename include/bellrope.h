@@ -20,6 +20,9 @@
  *       for (size_t at = 0; bellrope_walk(page, answer.bytes, &at, &record);) use(&record);
  *   } while (cursor.position != capture.n);
  *
+ * A capture may be harvested while it is recorded: bellrope_settled pages what more bits can no
+ * longer change, and leaves a cursor that stays good as the capture grows.
+ *
  * This header has the names first, then the two calls of the library, and at the end the forms of
  * them used here. Those stay as they are when a field is added to what is read, to a cursor or to
  * a record; the two calls then take one number more.
@@ -32,7 +35,7 @@
 #include <stddef.h>
 #include <stdint.h>
 
-#define BELLROPE_VERSION "0.3"
+#define BELLROPE_VERSION "0.4"
 
 #ifdef __cplusplus
 extern "C" {
@@ -219,6 +222,28 @@ static inline bellrope_answer bellrope_next(bellrope_capture capture, bellrope_c
 	                                    cursor->position, cursor->context, most,
 	                                    length ? buffer : &none, length),
 	                      cursor);
+}
+
+/* Paging of a capture that may still grow: as bellrope_next, but without the item that ends at n,
+ * since more bits may change it (its tail or the gap goes on, or a frame turns out to stand in the
+ * gap). What it answers, and the cursor, hold for each longer capture with the same bits before n,
+ * the same direction and the same profile. 0 items and number 0: nothing more is settled yet; ask
+ * again when there are more bits. When the recording has ended, bellrope_next gives the rest.
+ * Behind the bytes answered the buffer may hold the record left out. By bellrope_page itself: where
+ * a page ends at n, ask the same cursor again with `most` one less than the items answered, or with
+ * one item keep the cursor as it was. */
+static inline bellrope_answer bellrope_settled(bellrope_capture capture, bellrope_cursor *cursor,
+                                               uint64_t most, uint8_t *buffer, size_t length) {
+	bellrope_cursor ahead = *cursor;
+	bellrope_answer answer = bellrope_next(capture, &ahead, most, buffer, length);
+	if (answer.number != BELLROPE_TAKEN || answer.position != capture.n)
+		return bellrope_moved(answer, cursor);
+	if (answer.items > 1)
+		return bellrope_next(capture, cursor, answer.items - 1, buffer, length);
+	answer.items = answer.bytes = 0;
+	answer.position = cursor->position;
+	answer.context = cursor->context;
+	return answer;
 }
 
 /* Writing at the cursor, which moves behind the last frame unless the call is refused. */

@@ -1,6 +1,6 @@
-/* The inline part of bellrope.h, held against the specification: its table of kinds is typed here anew, its examples P8 and P12 are harvested and written
- * back. It is C99 and C++ at once. VERSION is the one that pkg-config gives. The linker hands the library's calls to the forms below (--wrap), which see
- * that they get valid pointers even where the length is 0. */
+/* The inline part of bellrope.h, held against the specification: its table of kinds is typed here anew, its examples P8, P9 and P12 are harvested, also
+ * while they grow, and P8 is written back. It is C99 and C++ at once. VERSION is the one that pkg-config gives. The linker hands the library's calls to
+ * the forms below (--wrap), which see that they get valid pointers even where the length is 0. */
 #include "hold.h"
 
 #include <string.h>
@@ -100,6 +100,95 @@ static void pages(void) {
 	HOLD(is(bellrope_next(bellrope_capture_of(NULL, 0, 0, BELLROPE_UPLINK), &cursor, 1, NULL, 0), BELLROPE_TAKEN, 0, 0, 0, 0, 2));
 	HOLD(stands(cursor, 0, BELLROPE_AFTER_AMR));
 	HOLD(is(bellrope_next(capture, &cursor, 1, NULL, 0), BELLROPE_NO_ROOM, 0, 0, 0, 0, 2) && stands(cursor, 0, 2));
+}
+
+static const uint64_t mosts[] = {1, 2, 3, 1000, UINT64_MAX};
+
+/* P8 at this n: up to 165 it is one gap, and nothing is settled. From 166 on, which is P9, the gap of 8 is settled and the frame is not. */
+static int settles_p8(uint64_t n, uint64_t most, size_t length) {
+	static const uint8_t gap[9] = {0, 0, 0, 0, 0, 0, 0, 0, 8};
+	uint8_t page[41], still[41];
+	bellrope_capture capture = bellrope_capture_of(p8, sizeof p8, n, BELLROPE_DOWNLINK);
+	bellrope_cursor cursor = bellrope_begin();
+	int room = n == 0 || length >= 9, settled = n >= 166 && room;
+	memset(page, 0x55, sizeof page);
+	memset(still, 0x55, sizeof still);
+	int so = is(bellrope_settled(capture, &cursor, most, page, length), room ? BELLROPE_TAKEN : BELLROPE_NO_ROOM, 0, settled, settled ? 9 : 0,
+	            settled ? 8 : 0, 0);
+	so = so && stands(cursor, settled ? 8 : 0, BELLROPE_SEARCHING) && memcmp(page + length, still, sizeof still - length) == 0;
+	if (settled) so = so && memcmp(page, gap, sizeof gap) == 0;
+	if (!room || n == 0) so = so && memcmp(page, still, sizeof still) == 0;
+	if (!settled) return so;
+	return so && is(bellrope_settled(capture, &cursor, most, page, length), length < 26 ? BELLROPE_NO_ROOM : BELLROPE_TAKEN, 0, 0, 0, 8, 0) &&
+	       stands(cursor, 8, BELLROPE_SEARCHING);
+}
+
+/* P8 as it grows, by each buffer and count. */
+static void grows(void) {
+	for (uint64_t n = 0; n <= 168; n++) {
+		unsigned wrong = 0;
+		for (size_t length = 0; length <= 40; length++)
+			for (size_t i = 0; i < sizeof mosts / sizeof *mosts; i++) wrong += !settles_p8(n, mosts[i], length);
+		HOLD(wrong == 0);
+	}
+}
+
+/* The cursor kept stays good: behind the gap stands a frame whose tail is 0 at n = 166 and 2 at 168. */
+static void kept(void) {
+	uint8_t page[40];
+	bellrope_cursor cursor = bellrope_begin();
+	HOLD(is(bellrope_settled(bellrope_capture_of(p8, sizeof p8, 165, 1), &cursor, 9, page, 40), 0, 0, 0, 0, 0, 0) && stands(cursor, 0, 0));
+	HOLD(is(bellrope_settled(bellrope_capture_of(p8, sizeof p8, 166, 1), &cursor, 9, page, 40), 0, 0, 1, 9, 8, 0) && stands(cursor, 8, 0));
+	for (uint64_t n = 166; n <= 168; n++) {
+		bellrope_cursor behind = cursor;
+		HOLD(is(bellrope_settled(bellrope_capture_of(p8, sizeof p8, n, 1), &cursor, 9, page, 40), 0, 0, 0, 0, 8, 0) && stands(cursor, 8, 0));
+		HOLD(is(bellrope_next(bellrope_capture_of(p8, sizeof p8, n, 1), &behind, 9, page, 40), 0, 0, 1, 26, n, 1) && stands(behind, n, 1));
+		HOLD(bellrope_number_at(page + BELLROPE_AT_START) == 8 && bellrope_number_at(page + BELLROPE_AT_TAIL) == n - 166);
+	}
+}
+
+/* FF H H: a page that `most` or the buffer ends before n is as bellrope_next has it; of one that ends at n, all but the last item is settled. P12: the
+ * context, too. */
+static void settles(void) {
+	uint8_t twice[41], page[80], next[80];
+	memcpy(twice, p8, 21);
+	memcpy(twice + 21, p8 + 1, 20);
+	bellrope_capture capture = bellrope_capture_of(twice, sizeof twice, 328, BELLROPE_DOWNLINK);
+	for (size_t length = 9; length <= 80; length++)
+		for (size_t i = 0; i < sizeof mosts / sizeof *mosts; i++) {
+			bellrope_cursor cursor = bellrope_begin(), whole = bellrope_begin();
+			int both = length >= 35 && mosts[i] >= 2, all = length >= 61 && mosts[i] >= 3;
+			HOLD(is(bellrope_settled(capture, &cursor, mosts[i], page, length), 0, 0, both ? 2 : 1, both ? 35 : 9, both ? 168 : 8, both));
+			HOLD(stands(cursor, both ? 168 : 8, both ? BELLROPE_AFTER_HR : BELLROPE_SEARCHING));
+			HOLD(bellrope_next(capture, &whole, mosts[i], next, length).items == (all ? 3 : both ? 2 : 1));
+			HOLD(memcmp(page, next, both ? 35 : 9) == 0);
+		}
+	bellrope_cursor cursor = bellrope_begin();
+	capture = bellrope_capture_of(p12, sizeof p12, 320, BELLROPE_UPLINK);
+	HOLD(is(bellrope_settled(capture, &cursor, 9, page, 80), 0, 0, 1, 30, 160, 2) && stands(cursor, 160, BELLROPE_AFTER_AMR));
+	HOLD(is(bellrope_settled(capture, &cursor, 9, page, 80), 0, 0, 0, 0, 160, 2) && stands(cursor, 160, BELLROPE_AFTER_AMR));
+}
+
+/* Refusals leave the cursor, also one that stands at n, and the buffer. At n, where no item is, none is settled. */
+static void unsettled(void) {
+	uint8_t page[40], still[40];
+	bellrope_cursor cursor = bellrope_begin(), beyond = {169, 0}, odd = {168, 6}, end = {168, BELLROPE_AFTER_HR};
+	bellrope_capture capture = bellrope_capture_of(p8, sizeof p8, 168, BELLROPE_DOWNLINK);
+	memset(page, 0x55, sizeof page);
+	memset(still, 0x55, sizeof still);
+	HOLD(is(bellrope_settled(bellrope_capture_of(p8, 21, 168, 2), &cursor, 9, page, 40), BELLROPE_BAD_REQUEST, 0, 0, 0, 0, 0) && stands(cursor, 0, 0));
+	HOLD(is(bellrope_settled(capture, &cursor, 0, page, 40), BELLROPE_BAD_REQUEST, 0, 0, 0, 0, 0) && stands(cursor, 0, 0));
+	HOLD(is(bellrope_settled(bellrope_capture_of(p8, 21, 169, 1), &cursor, 9, page, 40), BELLROPE_TOO_LONG, 0, 0, 0, 0, 0) && stands(cursor, 0, 0));
+	HOLD(is(bellrope_settled(capture, &beyond, 9, page, 40), BELLROPE_BAD_CURSOR, 0, 0, 0, 169, 0) && stands(beyond, 169, 0));
+	HOLD(is(bellrope_settled(capture, &odd, 9, page, 40), BELLROPE_BAD_CURSOR, 0, 0, 0, 168, 6) && stands(odd, 168, 6));
+	HOLD(is(bellrope_settled(capture, &end, 0, page, 40), BELLROPE_BAD_REQUEST, 0, 0, 0, 168, 1) && stands(end, 168, 1));
+	HOLD(is(bellrope_settled(capture, &cursor, 9, page, 8), BELLROPE_NO_ROOM, 0, 0, 0, 0, 0) && stands(cursor, 0, 0));
+	HOLD(is(bellrope_settled(capture, &cursor, 9, NULL, 0), BELLROPE_NO_ROOM, 0, 0, 0, 0, 0) && stands(cursor, 0, 0));
+	HOLD(is(bellrope_settled(capture, &end, 9, NULL, 0), BELLROPE_TAKEN, 0, 0, 0, 168, 1) && stands(end, 168, 1));
+	end.position = 0;
+	HOLD(is(bellrope_settled(bellrope_capture_of(NULL, 0, 0, 1), &end, 1, NULL, 0), BELLROPE_TAKEN, 0, 0, 0, 0, 1) && stands(end, 0, 1));
+	HOLD(is(bellrope_settled(bellrope_capture_of(p8, 21, 0, 1), &end, 1, page, 40), BELLROPE_TAKEN, 0, 0, 0, 0, 1) && stands(end, 0, 1));
+	HOLD(memcmp(page, still, sizeof still) == 0);
 }
 
 /* The records of P8 and P12, field by field. */
@@ -219,6 +308,10 @@ int main(void) {
 	kinds();
 	numbers();
 	pages();
+	grows();
+	kept();
+	settles();
+	unsettled();
 	fields();
 	d_bits();
 	walks();

@@ -96,6 +96,18 @@ mutant "a wrong silence frame opens a run" frame.rs 's/let all_right = /let all_
 mutant "a wrong silence frame ends a run" reading.rs 's/_ => frame.follows(context)/_ => frame.follows(context) \&\& (frame.kind != 5 || frame.starts_run(self.capture.terms.profile))/'
 mutant "paging by profile 0" page.rs 's/profile: request.profile/profile: 0/'
 mutant "writing by profile 0" write.rs 's/profile: self.profile/profile: 0/'
+# Captures that grow.
+mutant "growing: a bit behind n looked at" capture.rs 's/bits.truncate(n)/bits.truncate(n + 1)/'
+mutant "growing: a look at one bit more" requests.rs 's/self.capture.bits\[..n\]/self.capture.bits[..n + 1]/'
+mutant "growing: bits before n changed between looks" requests.rs '/pub fn cut/,/^    }/s/garbage(rng, &mut bytes, n)/garbage(rng, \&mut bytes, n.saturating_sub(8))/'
+mutant "growing: the last item kept" compare_growth.rs 's/reply.answer.items - 1;/reply.answer.items;/'
+mutant "growing: two items left out" compare_growth.rs 's/reply.answer.items - 1;/reply.answer.items - 2;/'
+mutant "growing: a tail that reached n does not go on" compare_growth.rs 's/reply.answer.items - 1;/reply.answer.items - u64::from(harvest.left.as_ref().is_some_and(|item| item.kind() == 0));/'
+mutant "growing: a gap that reached n does not change" compare_growth.rs 's/reply.answer.items - 1;/reply.answer.items - u64::from(harvest.left.as_ref().is_some_and(|item| item.kind() != 0));/'
+mutant "growing: the cursor behind a single item kept" compare_growth.rs 's/if reply.answer.items > 1 {/if reply.answer.items == 1 { harvest.keep(rng, request, reply); } else &/'
+mutant "growing: the context of the kept cursor lost" compare_growth.rs 's/context: answer.context/context: 0/'
+mutant "growing: a kept page asked with n before its end" compare_growth.rs '/fn ask_kept/,/^    }/s/n: now.capture.n() as u64/n: reply.answer.position - 1/'
+mutant "growing: a tail that goes on is another frame" growth.rs 's/if longer \&\& \*last ==/if !longer \&\& *last ==/'
 # Writing: the numbers of a request.
 mutant "65,536 bytes of records refused" write.rs 's/records.len() > MOST/records.len() >= MOST/'
 mutant "65,536 bytes of writing buffer refused" write.rs 's/buffer.len() > LONGEST/buffer.len() >= LONGEST/'

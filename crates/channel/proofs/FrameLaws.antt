@@ -4,13 +4,14 @@ use mathlib.Core.Path.{_≡_, refl, sym, _∙_, ap, subst, fun-ext}
 use mathlib.Core.Bool.{Bool, true, false, not, _&&_, cond}
 use mathlib.Core.List.{List, [], _∷_}
 use mathlib.Core.Option.{Option, none, some}
-use Prim.Native.Nat.{ℕ, _+_, _-_, _≤_}
+use Prim.Native.Nat.{ℕ, _+_, _-_, _≤_, _<_}
 use native.Mathlib.Nat.{zero-add}
 use native.Mathlib.Omega.{arith}
-use lib.Dec.{leb, eqb}
-use borrow.Author.Tests.{leb-true, eqb-true, not-true, le-leb}
+use lib.Dec.{leb, eqb, ltb}
+use borrow.Author.Tests.{leb-true, eqb-true, not-true, le-leb, lt-ltb, ltb-false}
 use Rattle.reading.specs.Reading.{Sound}
 use Rattle.channel.specs.declared.Direction.{Direction}
+use Rattle.channel.specs.declared.Direction.the-variants.{Uplink, Downlink}
 use Rattle.channel.specs.declared.Pattern.{Pattern}
 use Rattle.channel.specs.declared.Pattern.the-variants.{Hr, Low, P670, P740}
 use Rattle.channel.specs.declared.Terms.{Terms}
@@ -186,6 +187,10 @@ none-passes t h Lower = h .1 .1 .1 .1 .1 .0
 none-passes t h Amr670 = h .1 .1 .1 .1 .1 .1 .0
 none-passes t h Amr740 = h .1 .1 .1 .1 .1 .1 .1 .0
 
+-- where the first kind that passes is none, each fails
+no-kind : (t : Kind → Bool) → first t kinds ≡ none → (k : Kind) → t k ≡ false
+no-kind t h = none-passes t (first-none t kinds h)
+
 module _ (w : Capture) (x : Context) (p : ℕ) where
   -- two kinds that are due at a place are one
   due-one : (j k : Kind) → dueAt w x p j ≡ true → dueAt w x p k ≡ true → j ≡ k
@@ -207,36 +212,37 @@ module _ (w : Capture) (x : Context) (p : ℕ) where
       a = due-test w x p f h .0
 
       go : (o : Option Kind) → first (dueAt w x p) kinds ≡ o → made w x p o ≡ some f
-      go none e = let b = none-passes (dueAt w x p) (first-none (dueAt w x p) kinds e) (f .kind) in let z : true ≡ false = sym a ∙ b in cc
+      go none e = let b = no-kind (dueAt w x p) e (f .kind) in let z : true ≡ false = sym a ∙ b in cc
       go (some k) e =
           let r : k ≡ f .kind = due-one k (f .kind) (first-passes (dueAt w x p) kinds k e) a in
           ap (λ (j : Kind). some (frameAt w x p j)) r ∙ ap some (due-test w x p f h .1)
 
--- a body has 158 bits at least, and 160 at most
+-- a body has 158 bits at least; with its least tail it has 160 at most
 pub body-low : (k : Kind) → 158 ≤ bodyOf k
-body-low Speech = omega arith
-body-low Data = omega arith
-body-low Om = omega arith
-body-low Configuration = omega arith
-body-low NoSpeech = omega arith
-body-low Lower = omega arith
-body-low Amr670 = omega arith
-body-low Amr740 = omega arith
+body-low k = omega (arith, ltb-false (bodyOf k) 158 (no-kind (λ (j : Kind). ltb (bodyOf j) 158) refl k))
+
+pub least-high : (d : Direction) (k : Kind) → bodyOf k + leastTail d k ≤ 160
+least-high Uplink k = omega (arith, ltb-false 160 (bodyOf k + leastTail Uplink k) (no-kind (λ (j : Kind). ltb 160 (bodyOf j + leastTail Uplink j)) refl k))
+least-high Downlink k = omega (arith, ltb-false 160 (bodyOf k + leastTail Downlink k) (no-kind (λ (j : Kind). ltb 160 (bodyOf j + leastTail Downlink j)) refl k))
 
 pub body-high : (k : Kind) → bodyOf k ≤ 160
-body-high Speech = omega arith
-body-high Data = omega arith
-body-high Om = omega arith
-body-high Configuration = omega arith
-body-high NoSpeech = omega arith
-body-high Lower = omega arith
-body-high Amr670 = omega arith
-body-high Amr740 = omega arith
+body-high k = omega (arith, least-high Uplink k)
 
 -- a kind 8 never starts a run
 pub no-740 : (t : Terms) (g : Word) → starts t g Amr740 ≡ true → ⊥
 unfolding starts
 no-740 t g h = let z : _≡_ {A = ℕ} 0 1 = cc in omega arith
+
+-- what the three patterns have that can start a run, the pattern of a kind that starts one has
+pub starts-by : (P : Pattern → Bool) → P Hr ≡ true → P Low ≡ true → P P670 ≡ true → (t : Terms) (g : Word) (k : Kind) → starts t g k ≡ true → P (patternOf k) ≡ true
+starts-by P hr low p670 t g Speech h = hr
+starts-by P hr low p670 t g Data h = hr
+starts-by P hr low p670 t g Om h = hr
+starts-by P hr low p670 t g Configuration h = hr
+starts-by P hr low p670 t g NoSpeech h = low
+starts-by P hr low p670 t g Lower h = low
+starts-by P hr low p670 t g Amr670 h = p670
+starts-by P hr low p670 t g Amr740 h = absurd (no-740 t g h)
 
 -- what starts a run is allowed in every context
 pub starts-allowed : (t : Terms) (x : Context) (g : Word) (k : Kind) → allowed t 0 g k ≡ true → allowed t x g k ≡ true
@@ -260,6 +266,11 @@ module _ (w : Capture) (p : ℕ) (f : Frame) (v : ℕ) where
 
   pub stands-judged : Stands w p f → Stands w p judgedAs
   stands-judged s = record { at = s .at; before = s .before; bits = s .bits; holds = s .holds; tail = s .tail; least = s .least }
+
+-- the bits of a body are the capture's
+pub body-bit : (w : Capture) (p : ℕ) (f : Frame) → Stands w p f → (i : ℕ) → i < 158 → f .body i ≡ w .bits (p + i)
+body-bit w p f s i l =
+    ap (λ (g : Word). g i) (s .bits) ∙ ap (λ (b : Bool). b && w .bits (p + i)) (lt-ltb i (bodyOf (f .kind)) (omega (arith, body-low (f .kind))))
 
 -- the eight kinds have what the laws of a reading ask of a set of frames
 unfoldable pub sound : (w : Capture) → Sound rules w

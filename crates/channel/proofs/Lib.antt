@@ -7,4 +7,5 @@ pub mod ChannelLaws
 pub mod DLaws
 pub mod CutLaws
 pub mod ProfileLaws
+pub mod GrowthLaws
 pub mod UnseenLaws

@@ -1,7 +1,7 @@
 -- Rule 3: counting the ones behind a body gives its whole tail, and there is no other.
 -- Assumes nothing.
 use mathlib.Core.Path.{_≡_, refl, subst}
-use mathlib.Core.Logic.{_⊎_, inl, inr}
+use mathlib.Core.Logic.{_⊎_, inl, inr, by-cases}
 use mathlib.Core.Bool.{Bool, true, false, cond}
 use Prim.Native.Nat.{ℕ, zero, suc, _+_, _-_, _≤_, _<_}
 use native.Mathlib.Omega.{arith}
@@ -33,17 +33,14 @@ module _ (w : Capture) where
   pub tail-whole : (q : ℕ) → q ≤ w .n → Tail w q (tailOf (w .bits) (w .n - q) q)
   tail-whole q h = tail-from (w .n - q) q (omega arith)
 
-  tail-short : (q s t : ℕ) → Tail w q s → Tail w q t → s < t → ⊥
-  tail-short q s t a b h = go (a .stops)
+  -- ones right behind a place are in its whole tail
+  pub ones-in : (q t m : ℕ) → Tail w q t → q + m ≤ w .n → ((i : ℕ) → q ≤ i → i < q + m → w .bits i ≡ true) → m ≤ t
+  ones-in q t m h l ones = by-cases (decLt t m) (λ (a : t < m). absurd (go a (h .stops))) (λ (a : ¬ (t < m)). omega arith)
     where
-      go : (q + s ≡ w .n) ⊎ (w .bits (q + s) ≡ false) → ⊥
-      go (inl e) = omega (arith, b .within)
-      go (inr e) = let f = b .ones (q + s) (omega arith) (omega arith) in let z : _≡_ {A = ℕ} 0 1 = cc in omega arith
+      go : t < m → (q + t ≡ w .n) ⊎ (w .bits (q + t) ≡ false) → ⊥
+      go a (inl e) = omega arith
+      go a (inr e) = let f = ones (q + t) (omega arith) (omega arith) in let z : _≡_ {A = ℕ} 0 1 = cc in omega arith
 
   -- two whole tails behind one place are one
   pub tail-one : (q s t : ℕ) → Tail w q s → Tail w q t → s ≡ t
-  tail-one q s t a b =
-      elim (decLt s t) [
-        | yes h ↦ absurd (tail-short q s t a b h)
-        | no h ↦ elim (decLt t s) [ yes k ↦ absurd (tail-short q t s b a k) | no k ↦ omega arith ]
-      ]
+  tail-one q s t a b = omega (arith, ones-in q s t a (b .within) (b .ones), ones-in q t s b (a .within) (a .ones))

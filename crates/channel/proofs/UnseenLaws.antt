@@ -1,24 +1,19 @@
 -- Bits from n on are never looked at (document 01, "What the library covers"): captures that agree before n have the same reading.
 -- Assumes nothing.
-use mathlib.Core.Path.{_≡_, refl, sym, _∙_, fun-ext}
+use mathlib.Core.Path.{_≡_, refl, sym, _∙_}
 use mathlib.Core.Logic.{_⊎_, inl, inr, by-cases}
-use mathlib.Core.Bool.{Bool, true, false, _&&_}
+use mathlib.Core.Bool.{Bool, false}
 use mathlib.Core.List.{List, [], _∷_, _++_}
-use Prim.Native.Nat.{ℕ, _+_, _≤_, _<_}
+use Prim.Native.Nat.{ℕ, _+_, _<_}
 use native.Mathlib.Omega.{arith}
 use native.Mathlib.Decide.{decLt}
-use borrow.Author.Tests.{ltb-true}
-use lib.Dec.{ltb}
 use Rattle.reading.specs.Reading.{Cursor, Item, gap, frame, Obeys, over, Stretch, Reading, Starts, Leading}
 use Rattle.channel.specs.declared.Terms.{Terms}
 use Rattle.channel.specs.Kinds.{bodyOf}
-use Rattle.channel.specs.Coding.{wordAt}
 use Rattle.channel.specs.Verdict.{Context}
 use Rattle.channel.specs.Frames.{Capture, Frame, Tail, Due, rules}
-
--- two captures of n bits agree on each of them
-abbrev pub Agree : ℕ → (ℕ → Bool) → (ℕ → Bool) → Type 0
-Agree n f g = (i : ℕ) → i < n → f i ≡ g i
+use Rattle.channel.specs.Growth.{Agree}
+use Rattle.channel.proofs.GrowthLaws.{word-same, due-with}
 
 pub agree-back : (n : ℕ) (f g : ℕ → Bool) → Agree n f g → Agree n g f
 agree-back n f g h i l = sym (h i l)
@@ -28,13 +23,6 @@ module _ (n : ℕ) (t : Terms) where
   of f = record { bits = f; n = n; terms = t }
 
   module _ (f g : ℕ → Bool) (same : Agree n f g) where
-    word-same : (p b : ℕ) → p + b ≤ n → wordAt f p b ≡ wordAt g p b
-    word-same p b h = fun-ext (λ i. go i (ltb i b) refl)
-      where
-        go : (i : ℕ) (t : Bool) → ltb i b ≡ t → t && f (p + i) ≡ t && g (p + i)
-        go i false e = refl
-        go i true e = let l : i < b = ltb-true i b e in same (p + i) (omega arith)
-
     tail-same : (q t : ℕ) → Tail (of f) q t → Tail (of g) q t
     tail-same q t h =
         record {
@@ -50,19 +38,8 @@ module _ (n : ℕ) (t : Terms) where
     -- the same frames are due
     pub due-same : (x : Context) (p : ℕ) (h : Frame) → Due (of f) x p h → Due (of g) x p h
     due-same x p h e =
-        record {
-          stands =
-              record {
-                at = e .stands .at;
-                before = e .stands .before;
-                bits = e .stands .bits ∙ word-same p (bodyOf (h .kind)) (e .stands .before);
-                holds = e .stands .holds;
-                tail = tail-same (p + bodyOf (h .kind)) (h .tail) (e .stands .tail);
-                least = e .stands .least;
-              };
-          allows = e .allows;
-          judged = e .judged;
-        }
+        due-with (of f) (of g) refl x p h (h .tail) e (e .stands .before) (word-same n f g same p (bodyOf (h .kind)) (e .stands .before))
+        (tail-same (p + bodyOf (h .kind)) (h .tail) (e .stands .tail)) (e .stands .least)
 
   module _ (f g : ℕ → Bool) (same : Agree n f g) where
     obeys-same : (c : Cursor Context) (x : Item Frame) → Obeys rules (of f) c x → Obeys rules (of g) c x

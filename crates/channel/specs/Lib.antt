@@ -7,6 +7,7 @@ pub mod Checks
 pub mod Verdict
 pub mod Control
 pub mod Frames
+pub mod Growth
 pub mod Record
 pub mod Sound
 pub mod Examples

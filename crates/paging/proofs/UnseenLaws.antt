@@ -10,7 +10,8 @@ use Rattle.reading.specs.Paging.{Page, firstLeft}
 use Rattle.bits.specs.Bit.{bitAt}
 use Rattle.channel.specs.declared.Terms.{Terms}
 use Rattle.channel.specs.Frames.{Capture, captureOf, Frame, rules}
-use Rattle.channel.proofs.UnseenLaws.{Agree, agree-back, leading-same}
+use Rattle.channel.specs.Growth.{Agree}
+use Rattle.channel.proofs.UnseenLaws.{agree-back, leading-same}
 use Rattle.channel.specs.Record.{recordOf, records}
 use Rattle.call.specs.declared.CursorNumbers.{CursorNumbers}
 use Rattle.call.specs.declared.Answer.{Answer}

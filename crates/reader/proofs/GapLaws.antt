@@ -1,13 +1,13 @@
 -- The search for the end of a gap: what starts a run begins with nine fixed bits, and what is known of the places passed.
 -- Assumes nothing.
-use mathlib.Core.Path.{_≡_, refl, sym, _∙_, ap, subst}
+use mathlib.Core.Path.{_≡_, refl, sym, _∙_, subst}
 use mathlib.Core.Logic.{inl, inr, by-cases}
 use mathlib.Core.Bool.{Bool, true, false, not, _&&_}
 use mathlib.Core.List.{List, [], _∷_}
 use Prim.Native.Nat.{ℕ, _+_, _*_, _≤_, _<_}
 use native.Mathlib.Omega.{arith}
 use native.Mathlib.Decide.{ℕ-discrete, decLt}
-use borrow.Author.Tests.{not-true, lt-ltb, eqb-true}
+use borrow.Author.Tests.{not-true, eqb-true}
 use lib.Dec.{eqb}
 use lib.ListN.{getD}
 use Rattle.reading.specs.Reading.{Starts}
@@ -16,14 +16,13 @@ use Rattle.sync.specs.Sync.{Synced, SyncFrom}
 use Rattle.channel.specs.declared.Terms.{Terms}
 use Rattle.channel.specs.declared.Pattern.{Pattern}
 use Rattle.channel.specs.declared.Kind.{Kind}
-use Rattle.channel.specs.declared.Kind.the-variants.{Speech, Data, Om, Configuration, NoSpeech, Lower, Amr670, Amr740}
-use Rattle.channel.specs.Kinds.{patternOf, bodyOf}
+use Rattle.channel.specs.Kinds.{patternOf}
 use Rattle.channel.specs.Places.{elem, zerosOf, onesOf}
 use Rattle.channel.specs.Coding.{Word, all, fixed}
 use Rattle.channel.specs.Verdict.{starts}
 use Rattle.channel.specs.Frames.{Capture, Frame, rules}
 use Rattle.channel.proofs.BoolLaws.{never, and-l, and-r, all-at, all-below, zero-at, one-at}
-use Rattle.channel.proofs.FrameLaws.{no-740, body-low}
+use Rattle.channel.proofs.FrameLaws.{starts-by, body-low, body-bit}
 use Rattle.item.specs.declared.ItemKind.the-variants as of
 use Rattle.item.specs.declared.Item.{Item}
 use Rattle.item.specs.Item.{frameOf}
@@ -41,14 +40,7 @@ abbrev synced : Pattern → Bool
 synced t = all (λ i. elem i (zerosOf t)) (count 8 0) && (elem 8 (onesOf t) && all (λ i. elem i (onesOf t)) sync)
 
 starts-synced : (t : Terms) (g : Word) (k : Kind) → starts t g k ≡ true → synced (patternOf k) ≡ true
-starts-synced t g Speech h = refl
-starts-synced t g Data h = refl
-starts-synced t g Om h = refl
-starts-synced t g Configuration h = refl
-starts-synced t g NoSpeech h = refl
-starts-synced t g Lower h = refl
-starts-synced t g Amr670 h = refl
-starts-synced t g Amr740 h = absurd (no-740 t g h)
+starts-synced = starts-by synced refl refl refl
 
 in-sync : (j : ℕ) → j < 8 → elem (getD sync j 0) sync ≡ true
 in-sync = all-below 8 (λ j. elem (getD sync j 0) sync) refl
@@ -60,9 +52,7 @@ module _ (w : Capture) (q : ℕ) where
     holds = and-l _ _ (h .stands .holds)
 
     bit-of : (i : ℕ) → i < 158 → f .body i ≡ w .bits (q + i)
-    bit-of i l =
-        ap (λ (g : Word). g i) (h .stands .bits)
-        ∙ ap (λ (b : Bool). b && w .bits (q + i)) (lt-ltb i (bodyOf (f .kind)) (omega (arith, body-low (f .kind))))
+    bit-of = body-bit w q f (h .stands)
 
     first-zero : (i : ℕ) → i < 8 → w .bits (q + i) ≡ false
     first-zero i l =

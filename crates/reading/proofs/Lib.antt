@@ -3,3 +3,4 @@ pub mod ReadingLaws
 pub mod PageLaws
 pub mod FillLaws
 pub mod HarvestLaws
+pub mod GrowthLaws

@@ -10,7 +10,7 @@ use lib.ListN.{length, length-append}
 use Rattle.reading.specs.Reading.{Rules, Cursor, Item, Obeys, overAll, Stretch, Leading, Sound}
 use Rattle.reading.specs.Paging.{recordsBy, Page}
 use Rattle.reading.proofs.ItemLaws.{one, later, within}
-use Rattle.reading.proofs.ReadingLaws.{join, stretch-split, stretch-within, unique, read, exists}
+use Rattle.reading.proofs.ReadingLaws.{stretch-split, stretch-leads, unique}
 
 -- of two beginnings of one list the shorter begins the longer
 begins : {I : Type 0} (xs ys us vs : List I) → xs ++ us ≡ ys ++ vs → length xs ≤ length ys → (zs : List I) × (ys ≡ xs ++ zs)
@@ -60,12 +60,6 @@ module _ {W X F : Type 0} (R : Rules W X F) (recordOf : Item F → List ℕ) (w 
       leading-one xs ys (a .leads) (b .leads)
       (omega (arith, a .longest ys (b .leads) (b .counted) (b .fits), b .longest xs (a .leads) (a .counted) (a .fits)))
 
-  -- a stretch from a cursor not beyond n leads the reading
-  stretch-leads : c .position ≤ R .end w → (xs : List (Item F)) → Stretch R w c xs → Leading R w c xs
-  stretch-leads h xs s =
-      let to = overAll R c xs in
-      (read R w S to, join R w c xs (read R w S to) s (exists R w S to (stretch-within R w S c xs h s)))
-
   -- what stands first behind a leading part obeys the rules there
   next-obeys : (xs : List (Item F)) (z : Item F) (zs : List (Item F)) → Leading R w c (xs ++ (z ∷ zs)) → Obeys R w (overAll R c xs) z
   next-obeys xs z zs (rest, r) = stretch-split R w c xs (z ∷ zs) (stretch-split R w c (xs ++ (z ∷ zs)) rest (r .0) .0) .1 .0
@@ -75,14 +69,14 @@ module _ {W X F : Type 0} (R : Rules W X F) (recordOf : Item F → List ℕ) (w 
     longest-if : ((z : Item F) → Obeys R w (overAll R c xs) z → length xs < most → length (recordsBy recordOf xs) + length (recordOf z) ≤ room → ⊥) → Page R recordOf w c most room xs
     longest-if no-more =
         record {
-          leads = stretch-leads inside xs stretch;
+          leads = stretch-leads R w S c xs inside stretch;
           counted = counted;
           fits = fits;
           longest = λ ys l m k. by-cases (decLt (length xs) (length ys)) (λ (h : length xs < length ys). absurd (longer ys l m k h)) (λ (h : ¬ (length xs < length ys)). omega arith);
         }
       where
         longer : (ys : List (Item F)) → Leading R w c ys → length ys ≤ most → length (recordsBy recordOf ys) ≤ room → length xs < length ys → ⊥
-        longer ys l m k h = let (zs, e) = leading-begins xs ys (stretch-leads inside xs stretch) l (omega arith) in go zs e
+        longer ys l m k h = let (zs, e) = leading-begins xs ys (stretch-leads R w S c xs inside stretch) l (omega arith) in go zs e
           where
             go : (zs : List (Item F)) → ys ≡ xs ++ zs → ⊥
             go [] e = omega (arith, ap length (e ∙ append-nil xs))

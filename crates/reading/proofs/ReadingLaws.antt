@@ -7,7 +7,7 @@ use Prim.Native.Nat.{ℕ, zero, suc, _+_, _-_, _≤_}
 use native.Mathlib.Omega.{arith}
 use lib.Dec.{ltb}
 use borrow.Author.Tests.{ltb-true, ltb-false}
-use Rattle.reading.specs.Reading.{Rules, Cursor, Item, Obeys, over, overAll, Stretch, Reading, Pages, joined, Sound}
+use Rattle.reading.specs.Reading.{Rules, Cursor, Item, Obeys, over, overAll, Stretch, Reading, Leading, Pages, joined, Sound}
 use Rattle.reading.proofs.ItemLaws.{one, later, within, next, found}
 
 module _ {W X F : Type 0} (R : Rules W X F) (w : W) where
@@ -96,6 +96,10 @@ module _ {W X F : Type 0} (R : Rules W X F) (w : W) (S : Sound R w) where
   pub exists : (c : Cursor X) → c .position ≤ R .end w → Reading R w c (read c)
   unfolding read
   exists c h = read-for (R .end w - c .position) c (omega arith) h
+
+  -- a stretch from a cursor not beyond n leads the reading
+  pub stretch-leads : (c : Cursor X) (xs : List (Item F)) → c .position ≤ R .end w → Stretch R w c xs → Leading R w c xs
+  stretch-leads c xs h s = let to = overAll R c xs in (read to, join R w c xs (read to) s (exists to (stretch-within c xs h s)))
 
   -- what obeys the rules is what is computed
   pub is-read : (c : Cursor X) (xs : List (Item F)) → Reading R w c xs → xs ≡ read c

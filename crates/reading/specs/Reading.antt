@@ -5,6 +5,7 @@ use mathlib.Core.Logic.{_⊎_}
 use mathlib.Core.Option.{Option, some}
 use mathlib.Core.List.{List, [], _∷_, _++_}
 use Prim.Native.Nat.{ℕ, _+_, _≤_, _<_}
+use lib.ListN.{length}
 
 -- The parameters. W: what is read, a capture with its direction. X: contexts. F: frames, each with its whole tail (rule 3).
 pub record Rules (W X F : Type 0) : Type 1 where
@@ -76,6 +77,10 @@ module _ {W X F : Type 0} (R : Rules W X F) where
   -- a leading part of the reading from a cursor
   abbrev pub Leading : W → Cursor X → List (Item F) → Type 0
   Leading w c xs = (ys : List (Item F)) × Reading w c (xs ++ ys)
+
+  -- all items of the reading from a cursor but its last k, or fewer of them: at least k stand behind (document 02, Ask 2)
+  abbrev pub AllBut : ℕ → W → Cursor X → List (Item F) → Type 0
+  AllBut k w c xs = (ys : List (Item F)) × Reading w c (xs ++ ys) × (k ≤ length ys)
 
   -- pages until the end: each a leading part of the reading from the cursor that the last handed back, the last cursor at n
   abbrev pub Pages : W → Cursor X → List (List (Item F)) → Type 0

@@ -25,7 +25,7 @@ pub struct Comparison {
 }
 
 /// In how many cases there is one sweep. The default run makes each sweep once at least.
-const SWEEP_EACH: u64 = 14;
+const SWEEP_EACH: u64 = 13;
 
 impl Comparison {
     pub fn new(client: Client, own_checks: bool) -> Comparison {

@@ -12,7 +12,7 @@ use model::rng::Rng;
 use model::rules;
 
 impl Comparison {
-    /// Some requests for a capture, sometimes a harvest; then the rules on the model's own reading.
+    /// Some requests for a capture, sometimes harvests; then the rules on the model's own reading.
     pub fn page_case(&mut self, rng: &mut Rng, lent: &Lent) -> Result<(), Stop> {
         for _ in 0..8 {
             let mut request = lent.request(rng);
@@ -33,6 +33,9 @@ impl Comparison {
         if rng.once_in(3) || lent.bytes.len() == LONGEST {
             self.harvest(rng, lent)?;
         }
+        if rng.once_in(if lent.long() { 3 } else { 10 }) {
+            self.polled_harvest(rng, lent)?;
+        }
         if !self.own_checks {
             return Ok(());
         }
@@ -40,7 +43,7 @@ impl Comparison {
             position: 0,
             context: 0,
         }];
-        if lent.capture.n() < 10_000 {
+        if !lent.long() {
             let position = rng.below(lent.capture.n() + 1);
             let context = rng.below(6) as u64;
             cursors.push(Cursor { position, context });
@@ -62,9 +65,9 @@ impl Comparison {
         let whole: Vec<u8> = reading(capture, start)
             .flat_map(|item| record(&item))
             .collect();
-        let largest = match capture.n() < 10_000 {
-            true => rng.of(&[40, 80, 300, 3_000]),
-            false => rng.of(&[3_000, 100_000]),
+        let largest = match lent.long() {
+            true => rng.of(&[3_000, 100_000]),
+            false => rng.of(&[40, 80, 300, 3_000]),
         };
         let mut joined: Vec<u8> = Vec::new();
         let mut request = Request {

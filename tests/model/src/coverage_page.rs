@@ -2,6 +2,7 @@
 
 use crate::coverage::{range, silence, silences, verdicts_of_6, Counts, Line};
 use model::families::FAMILIES;
+use model::growth::CHANGES;
 use model::page::{Page, Request, CAUSES};
 use model::reading::Item;
 
@@ -42,6 +43,13 @@ pub fn count(counts: &mut Counts, request: &Request, page: &Page) {
     }
 }
 
+/// What is counted of harvests while the capture grows, beside what becomes of the last item.
+pub const POLLED: &str = "polled harvest";
+pub const LONG_POLLED: &str = "long polled harvest";
+pub const NOTHING_KEPT: &str = "look that kept nothing";
+pub const ONE_LESS: &str = "asked again with one less";
+pub const GROWN: &str = "kept page asked again on the grown capture";
+
 /// The coverage line, and what was never hit.
 pub fn line(counts: &Counts) -> (String, Vec<String>) {
     let mut line = Line::new(counts);
@@ -52,6 +60,8 @@ pub fn line(counts: &Counts) -> (String, Vec<String>) {
     line.list("context 0..5", &range("context", 0, 5));
     line.list("context after 0..5", &range("context after", 0, 5));
     line.each(&["at n", "twin", "harvest", "full harvest"].map(String::from));
+    line.each(&[POLLED, LONG_POLLED, NOTHING_KEPT, ONE_LESS, GROWN].map(String::from));
+    line.each(&CHANGES.map(|change| format!("{change:?}")));
     line.list("direction 0..1", &range("direction", 0, 1));
     line.each(&FAMILIES.map(|family| format!("{family:?}")));
     let mut pairs = Vec::new();

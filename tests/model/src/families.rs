@@ -44,6 +44,19 @@ pub struct Made {
     pub borders: Vec<usize>,
 }
 
+/// The frames of the specification's examples: H, Z, and the kind 7 of P12.
+pub const H: &str = "008844 808080808080 F0 808080808080808080 BF";
+pub const Z: &str = "200080 0000000000000000000000000000000000";
+pub const SEVEN: &str = "00809080800080008060 80008000800080008000";
+
+/// The bits of a text of hexadecimal digits and blanks.
+pub fn bits(text: &str) -> Vec<bool> {
+    let digits = text.chars().filter(|digit| *digit != ' ');
+    let digits = digits.map(|digit| digit.to_digit(16).expect("a digit"));
+    let four = |digit: u32| [3, 2, 1, 0].map(|i| digit >> i & 1 != 0);
+    digits.flat_map(four).collect()
+}
+
 /// Bit errors in 65,536: from 1e-1 to 1e-4.
 const DAMAGE: [usize; 7] = [6_554, 1_966, 655, 197, 66, 20, 7];
 
@@ -200,16 +213,9 @@ impl Made {
 
     /// The captures of the specification's examples, one behind the other in any order.
     fn example(&mut self, rng: &mut Rng) {
-        let h = "008844 808080808080 F0 808080808080808080 BF";
-        let z = "200080 0000000000000000000000000000000000";
-        let seven = "00809080800080008060 80008000800080008000";
         for _ in 0..1 + rng.below(4) {
             self.borders.push(self.bits.len());
-            let text = rng.of(&["FF", h, z, seven]).replace(' ', "");
-            for digit in text.chars() {
-                let digit = digit.to_digit(16).expect("a digit");
-                self.bits.extend([3, 2, 1, 0].map(|i| digit >> i & 1 != 0));
-            }
+            self.bits.extend(bits(rng.of(&["FF", H, Z, SEVEN])));
         }
     }
 

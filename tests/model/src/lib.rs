@@ -9,6 +9,7 @@ pub mod crc;
 pub mod families;
 pub mod fields;
 pub mod frame;
+pub mod growth;
 pub mod inverse;
 pub mod judge;
 pub mod kinds;

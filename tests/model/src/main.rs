@@ -8,6 +8,7 @@
 
 mod client;
 mod compare;
+mod compare_growth;
 mod compare_page;
 mod compare_write;
 mod coverage;

@@ -53,6 +53,51 @@ impl Lent {
         self.bytes.len() > LONGEST
     }
 
+    /// Whether reading it takes long.
+    pub fn long(&self) -> bool {
+        self.capture.n() >= 10_000
+    }
+
+    /// The capture when it had n bits. Behind them stand those that come later, garbage, or none.
+    pub fn cut(&self, rng: &mut Rng, n: usize) -> Lent {
+        let mut bytes = self.bytes.clone();
+        if rng.bit() {
+            bytes.truncate(n.div_ceil(8));
+        }
+        if rng.bit() {
+            garbage(rng, &mut bytes, n);
+        }
+        let bits = self.capture.bits[..n].to_vec();
+        let terms = self.capture.terms;
+        Lent {
+            bytes,
+            capture: Capture { bits, terms },
+            borders: Vec::new(),
+        }
+    }
+
+    /// Where n stands at the next look: a bit on, a few bits, about a frame, near the next border,
+    /// or far on, as mostly in a long capture.
+    pub fn grow(&self, rng: &mut Rng, n: usize) -> usize {
+        let end = self.capture.n();
+        let ways = if self.long() { 24 } else { 8 };
+        let next = match rng.below(ways) {
+            0 => n + 1,
+            1 => n + 1 + rng.below(8),
+            2 | 3 => n + 150 + rng.below(20),
+            4..=6 => {
+                let borders = self.borders.iter().filter(|p| **p > n);
+                let next = *borders.min().unwrap_or(&end);
+                match rng.bit() {
+                    true => next,
+                    false => near(rng, next, end),
+                }
+            }
+            _ => n + rng.below(end / 4 + 1),
+        };
+        next.max(n + 1).min(end)
+    }
+
     /// Any cursor, often where something begins or ends.
     pub fn cursor(&self, rng: &mut Rng) -> Cursor {
         let n = self.capture.n();

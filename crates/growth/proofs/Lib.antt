@@ -1,0 +1,3 @@
+pub mod StayLaws
+pub mod EndLaws
+pub mod PollLaws
