@@ -129,8 +129,9 @@ typedef struct {
  *   position, context       the cursor to go on from
  *   most                    how many items at most, at least 1; UINT64_MAX for all that fit
  *   buffer                  where the records go
- * Before n a page that is not refused has at least one item; at n it has none. Here and in writing,
- * pointers must be valid even where the length is 0. */
+ * Before n a page that is not refused has at least one item; at n it has none. Should the capture
+ * grow, a page that ends before n would be the same again; for one that ends at n see
+ * bellrope_settled. Here and in writing, pointers must be valid even where the length is 0. */
 bellrope_answer bellrope_page(const uint8_t *capture, size_t capture_len, uint64_t n,
                               uint64_t direction, uint8_t profile, uint64_t position,
                               uint64_t context, uint64_t most, uint8_t *buffer,

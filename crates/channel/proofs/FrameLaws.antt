@@ -9,7 +9,8 @@ use native.Mathlib.Nat.{zero-add}
 use native.Mathlib.Omega.{arith}
 use lib.Dec.{leb, eqb, ltb}
 use borrow.Author.Tests.{leb-true, eqb-true, not-true, le-leb, lt-ltb, ltb-false}
-use Rattle.reading.specs.Reading.{Sound}
+use Rattle.reading.specs.Reading.{Starts, Sound}
+use Rattle.bits.specs.Bit.{count}
 use Rattle.channel.specs.declared.Direction.{Direction}
 use Rattle.channel.specs.declared.Direction.the-variants.{Uplink, Downlink}
 use Rattle.channel.specs.declared.Pattern.{Pattern}
@@ -18,10 +19,11 @@ use Rattle.channel.specs.declared.Terms.{Terms}
 use Rattle.channel.specs.declared.Kind.{Kind}
 use Rattle.channel.specs.declared.Kind.the-variants.{Speech, Data, Om, Configuration, NoSpeech, Lower, Amr670, Amr740}
 use Rattle.channel.specs.Kinds.{kinds, kindNo, patternOf, bodyOf, leastTail}
-use Rattle.channel.specs.Coding.{Word, wordAt, fixed, c1to3, c4to5, hrCoded, coded, isBody}
+use Rattle.channel.specs.Places.{elem, zerosOf}
+use Rattle.channel.specs.Coding.{Word, wordAt, all, fixed, c1to3, c4to5, hrCoded, coded, isBody}
 use Rattle.channel.specs.Verdict.{Context, verdictOf, starts, allowed}
 use Rattle.channel.specs.Frames.{Capture, Frame, Stands, Due, rules}
-use Rattle.channel.proofs.BoolLaws.{ands, and-both, zero-at, one-at}
+use Rattle.channel.proofs.BoolLaws.{ands, and-l, and-both, all-below, zero-at, one-at}
 use Rattle.channel.proofs.TailLaws.{tailOf, tail-whole, tail-one}
 
 -- the only pattern whose fixed bits can hold, by three bits
@@ -271,6 +273,14 @@ module _ (w : Capture) (p : ℕ) (f : Frame) (v : ℕ) where
 pub body-bit : (w : Capture) (p : ℕ) (f : Frame) → Stands w p f → (i : ℕ) → i < 158 → f .body i ≡ w .bits (p + i)
 body-bit w p f s i l =
     ap (λ (g : Word). g i) (s .bits) ∙ ap (λ (b : Bool). b && w .bits (p + i)) (lt-ltb i (bodyOf (f .kind)) (omega (arith, body-low (f .kind))))
+
+-- what starts a run begins with eight zeros
+pub first-zero : (w : Capture) (q : ℕ) (f : Frame) → Starts rules w q f → (i : ℕ) → i < 8 → w .bits (q + i) ≡ false
+first-zero w q f h i l =
+    let zeros : all (λ j. elem j (zerosOf (patternOf (f .kind)))) (count 8 0) ≡ true =
+    starts-by (λ (t : Pattern). all (λ j. elem j (zerosOf t)) (count 8 0)) refl refl refl (w .terms) (f .body) (f .kind) (h .allows) in
+    sym (body-bit w q f (h .stands) i (omega arith))
+    ∙ zero-at (f .body) (patternOf (f .kind)) i (all-below 8 (λ j. elem j (zerosOf (patternOf (f .kind)))) zeros i l) (and-l _ _ (h .stands .holds))
 
 -- the eight kinds have what the laws of a reading ask of a set of frames
 unfoldable pub sound : (w : Capture) → Sound rules w

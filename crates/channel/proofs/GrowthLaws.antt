@@ -15,14 +15,13 @@ use Rattle.channel.specs.declared.Pattern.{Pattern}
 use Rattle.channel.specs.declared.Pattern.the-variants.{Hr, Low, P670, P740}
 use Rattle.channel.specs.declared.Terms.{Terms}
 use Rattle.channel.specs.Kinds.{patternOf, bodyOf, leastTail}
-use Rattle.channel.specs.Places.{elem, zerosOf}
 use Rattle.channel.specs.Coding.{Word, wordAt, fixed, isBody}
 use Rattle.channel.specs.Verdict.{Context, verdictOf, allowed}
 use Rattle.channel.specs.Frames.{Capture, Frame, Tail, Due, behind, rules}
 use Rattle.channel.specs.Growth.{Agree, Grown, unsettled}
-use Rattle.channel.proofs.BoolLaws.{never, and-l, zero-at, one-at}
+use Rattle.channel.proofs.BoolLaws.{never, and-l, one-at}
 use Rattle.channel.proofs.TailLaws.{tail-whole, ones-in}
-use Rattle.channel.proofs.FrameLaws.{tailAt, body-low, least-high, starts-by, body-bit, sound}
+use Rattle.channel.proofs.FrameLaws.{tailAt, body-low, least-high, body-bit, first-zero, sound}
 
 -- words of bits that agree are the same
 pub word-same : (n : ℕ) (f g : ℕ → Bool) → Agree n f g → (p b : ℕ) → p + b ≤ n → wordAt f p b ≡ wordAt g p b
@@ -60,12 +59,6 @@ early-one g Hr h = inl (one-at g Hr 8 refl h)
 early-one g Low h = inl (one-at g Low 8 refl h)
 early-one g P670 h = inl (one-at g P670 8 refl h)
 early-one g P740 h = inr (one-at g P740 2 refl h)
-
--- what starts a run has each zero that the three patterns share which can
-early-zero : (w : Capture) (q i : ℕ) (f : Frame) → Starts rules w q f → elem i (zerosOf Hr) ≡ true → elem i (zerosOf Low) ≡ true → elem i (zerosOf P670) ≡ true → i < 158 → w .bits (q + i) ≡ false
-early-zero w q i f h hr low p670 l =
-    sym (body-bit w q f (h .stands) i l)
-    ∙ zero-at (f .body) (patternOf (f .kind)) i (starts-by (λ (t : Pattern). elem i (zerosOf t)) hr low p670 (w .terms) (f .body) (f .kind) (h .allows)) (and-l _ _ (h .stands .holds))
 
 module _ (w v : Capture) (G : Grown w v) where
   -- a tail that ends before the old n is whole in the new capture too
@@ -128,8 +121,8 @@ module _ (w v : Capture) (G : Grown w v) where
             go next far (early-one (g .body) (patternOf (g .kind)) (and-l _ _ (d .stands .holds)))
           where
             go : q ≡ p + 1 → q + 158 ≤ w .n → (g .body 8 ≡ true) ⊎ (g .body 2 ≡ true) → ⊥
-            go e m (inl o) = differ 8 7 (omega arith) (omega arith) (one-in 8 (omega arith) o) (early-zero w q 7 f s refl refl refl (omega arith))
-            go e m (inr o) = differ 2 1 (omega arith) (omega arith) (one-in 2 (omega arith) o) (early-zero w q 1 f s refl refl refl (omega arith))
+            go e m (inl o) = differ 8 7 (omega arith) (omega arith) (one-in 8 (omega arith) o) (first-zero w q f s 7 (omega arith))
+            go e m (inr o) = differ 2 1 (omega arith) (omega arith) (one-in 2 (omega arith) o) (first-zero w q f s 1 (omega arith))
 
   -- the eight kinds have what growth asks of a set of frames
   grows : Grows rules w v

@@ -1,5 +1,5 @@
 -- A page that reaches n (document 02, Ask 2): asked again with most one less than its items it is the same page without its last record, and ends before n;
--- and as it is it does not stay, for it has another answer where the next bit is a one.
+-- as it is it need not stay, for it has another answer if the next bit is a one.
 -- Assumes nothing.
 use mathlib.Core.Path.{_≡_, refl, sym, _∙_, ap, subst}
 use mathlib.Core.Logic.{_⊎_, inl, inr}
@@ -20,7 +20,7 @@ use Rattle.channel.specs.Verdict.{Context}
 use Rattle.channel.specs.Frames.{Capture, captureOf, Frame, rules}
 use Rattle.channel.specs.Record.{recordOf, records}
 use Rattle.channel.proofs.BoolLaws.{never}
-use Rattle.channel.proofs.FrameLaws.{body-low, sound}
+use Rattle.channel.proofs.FrameLaws.{first-zero, sound}
 use Rattle.call.specs.declared.Answer.{Answer}
 use Rattle.call.specs.Call.{termsBy, cursorBy, answeredBy, refused}
 use Rattle.call.specs.declared.PageRequest.{PageRequest}
@@ -117,14 +117,14 @@ module _ (capture : List ℕ) (r : PageRequest) (buffer : List ℕ) (a : Answer)
         let (xs, y, is) = split-last page (omega (arith, g .counted)) in
         one-less-is xs y is
 
--- where the last bit is a one, no item ends just before it
-none-ends : (v : Capture) (m : ℕ) → v .n ≡ m + 1 → v .bits m ≡ true → (c : Cursor Context) (x : Item Frame) → Obeys rules v c x → over rules c x .position ≡ m → ⊥
-none-ends v m e o c (gap s l) h at = go (h .stops)
+-- before n no item ends where a one stands: a tail goes on there, and no run starts
+none-ends : (v : Capture) (m : ℕ) → m < v .n → v .bits m ≡ true → (c : Cursor Context) (x : Item Frame) → Obeys rules v c x → over rules c x .position ≡ m → ⊥
+none-ends v m l o c (gap s k) h at = go (h .stops)
   where
-    go : (s + l ≡ v .n) ⊎ ((f : Frame) × Starts rules v (s + l) f) → ⊥
-    go (inl q) = omega arith
-    go (inr (f, q)) = omega (arith, q .stands .before, body-low (f .kind))
-none-ends v m e o c (frame f) h at = go (h .stands .tail .stops)
+    go : (s + k ≡ v .n) ⊎ ((f : Frame) × Starts rules v (s + k) f) → ⊥
+    go (inl e) = omega arith
+    go (inr (f, q)) = let here : s + k + 0 ≡ m = omega arith in never (sym o ∙ ap (v .bits) (sym here) ∙ first-zero v (s + k) f q 0 (omega arith))
+none-ends v m l o c (frame f) h at = go (h .stands .tail .stops)
   where
     q : ℕ
     q = c .position + bodyOf (f .kind) + f .tail
@@ -133,16 +133,16 @@ none-ends v m e o c (frame f) h at = go (h .stands .tail .stops)
     here = omega (arith, h .stands .at)
 
     go : (q ≡ v .n) ⊎ (v .bits q ≡ false) → ⊥
-    go (inl z) = omega (arith, here)
-    go (inr z) = never (sym o ∙ ap (v .bits) (sym here) ∙ z)
+    go (inl e) = omega (arith, here)
+    go (inr e) = never (sym o ∙ ap (v .bits) (sym here) ∙ e)
 
--- a page with an item that reaches n is not answered so again where one more bit has come, a one
-pub end-changes : (capture : List ℕ) (r : PageRequest) (buffer : List ℕ) (a : Answer) (after : List ℕ) (m : ℕ) → PageCall capture r buffer a after → a .number ≡ 0 → 0 < a .items → r .n ≡ m + 1 → bitAt capture m ≡ true → a .position ≡ m → ⊥
-end-changes capture r buffer a after m call taken-up some e o at =
+-- so no page with an item ends there: one that reached n is never answered so again when more bits have come, the first of them a one
+pub end-changes : (capture : List ℕ) (r : PageRequest) (buffer : List ℕ) (a : Answer) (after : List ℕ) (m : ℕ) → PageCall capture r buffer a after → a .number ≡ 0 → 0 < a .items → m < r .n → bitAt capture m ≡ true → a .position ≡ m → ⊥
+end-changes capture r buffer a after m call taken-up some l o at =
     let g = got capture r buffer a after call taken-up .filled in
     let v = captureOf capture (r .n) (termsBy (r .terms)) in
     let c = cursorBy (r .cursor) in
     let (xs, y, is) = split-last (g .page) (omega (arith, g .counted)) in
     let all : Stretch rules v c (xs ++ (y ∷ [])) = subst (Stretch rules v c) is (stretch capture r buffer a after call taken-up) in
     let p : overAll rules c (xs ++ (y ∷ [])) .position ≡ m = ap (λ (l : List (Item Frame)). overAll rules c l .position) (sym is) ∙ sym (ap (λ (t : Cursor Context). t .position) (g .moved)) ∙ at in
-    none-ends v m e o (overAll rules c xs) y (stretch-split rules v c xs (y ∷ []) all .1 .0) (sym (ap (λ (t : Cursor Context). t .position) (over-append rules v c xs (y ∷ []))) ∙ p)
+    none-ends v m l o (overAll rules c xs) y (stretch-split rules v c xs (y ∷ []) all .1 .0) (sym (ap (λ (t : Cursor Context). t .position) (over-append rules v c xs (y ∷ []))) ∙ p)

@@ -11,18 +11,15 @@ use borrow.Author.Tests.{not-true, eqb-true}
 use lib.Dec.{eqb}
 use lib.ListN.{getD}
 use Rattle.reading.specs.Reading.{Starts}
-use Rattle.bits.specs.Bit.{count}
 use Rattle.sync.specs.Sync.{Synced, SyncFrom}
-use Rattle.channel.specs.declared.Terms.{Terms}
 use Rattle.channel.specs.declared.Pattern.{Pattern}
 use Rattle.channel.specs.declared.Kind.{Kind}
 use Rattle.channel.specs.Kinds.{patternOf}
-use Rattle.channel.specs.Places.{elem, zerosOf, onesOf}
-use Rattle.channel.specs.Coding.{Word, all, fixed}
-use Rattle.channel.specs.Verdict.{starts}
+use Rattle.channel.specs.Places.{elem, onesOf}
+use Rattle.channel.specs.Coding.{all, fixed}
 use Rattle.channel.specs.Frames.{Capture, Frame, rules}
-use Rattle.channel.proofs.BoolLaws.{never, and-l, and-r, all-at, all-below, zero-at, one-at}
-use Rattle.channel.proofs.FrameLaws.{starts-by, body-low, body-bit}
+use Rattle.channel.proofs.BoolLaws.{never, and-l, and-r, all-at, all-below, one-at}
+use Rattle.channel.proofs.FrameLaws.{starts-by, body-low, body-bit, first-zero}
 use Rattle.item.specs.declared.ItemKind.the-variants as of
 use Rattle.item.specs.declared.Item.{Item}
 use Rattle.item.specs.Item.{frameOf}
@@ -35,12 +32,9 @@ sync = 32 ∷ 48 ∷ 64 ∷ 80 ∷ 96 ∷ 112 ∷ 128 ∷ 144 ∷ []
 pub sync-place : (j : ℕ) → j < 8 → getD sync j 0 ≡ 16 * j + 32
 sync-place j h = eqb-true (getD sync j 0) (16 * j + 32) (all-below 8 (λ j. eqb (getD sync j 0) (16 * j + 32)) refl j h)
 
--- a pattern begins with eight zeros and a one, and has those ones
+-- a pattern has the one behind its first zeros, and those ones
 abbrev synced : Pattern → Bool
-synced t = all (λ i. elem i (zerosOf t)) (count 8 0) && (elem 8 (onesOf t) && all (λ i. elem i (onesOf t)) sync)
-
-starts-synced : (t : Terms) (g : Word) (k : Kind) → starts t g k ≡ true → synced (patternOf k) ≡ true
-starts-synced = starts-by synced refl refl refl
+synced t = elem 8 (onesOf t) && all (λ i. elem i (onesOf t)) sync
 
 in-sync : (j : ℕ) → j < 8 → elem (getD sync j 0) sync ≡ true
 in-sync = all-below 8 (λ j. elem (getD sync j 0) sync) refl
@@ -51,23 +45,14 @@ module _ (w : Capture) (q : ℕ) where
     holds : fixed (f .body) (patternOf (f .kind)) ≡ true
     holds = and-l _ _ (h .stands .holds)
 
-    bit-of : (i : ℕ) → i < 158 → f .body i ≡ w .bits (q + i)
-    bit-of = body-bit w q f (h .stands)
-
-    first-zero : (i : ℕ) → i < 8 → w .bits (q + i) ≡ false
-    first-zero i l =
-        let e : all (λ i. elem i (zerosOf (patternOf (f .kind)))) (count 8 0) ≡ true = and-l _ _ (starts-synced (w .terms) (f .body) (f .kind) (h .allows)) in
-        sym (bit-of i (omega arith))
-        ∙ zero-at (f .body) (patternOf (f .kind)) i (all-below 8 (λ i. elem i (zerosOf (patternOf (f .kind)))) e i l) holds
-
-    then-ones : elem 8 (onesOf (patternOf (f .kind))) && all (λ i. elem i (onesOf (patternOf (f .kind)))) sync ≡ true
-    then-ones = and-r (all (λ i. elem i (zerosOf (patternOf (f .kind)))) (count 8 0)) _ (starts-synced (w .terms) (f .body) (f .kind) (h .allows))
+    then-ones : synced (patternOf (f .kind)) ≡ true
+    then-ones = starts-by synced refl refl refl (w .terms) (f .body) (f .kind) (h .allows)
 
     one-in : (i : ℕ) → i < 158 → elem i (onesOf (patternOf (f .kind))) ≡ true → w .bits (q + i) ≡ true
-    one-in i l e = sym (bit-of i l) ∙ one-at (f .body) (patternOf (f .kind)) i e holds
+    one-in i l e = sym (body-bit w q f (h .stands) i l) ∙ one-at (f .body) (patternOf (f .kind)) i e holds
 
     start-synced : Synced (w .bits) q
-    start-synced = record { zeros = first-zero; one = one-in 8 (omega arith) (and-l _ _ then-ones) }
+    start-synced = record { zeros = first-zero w q f h; one = one-in 8 (omega arith) (and-l _ _ then-ones) }
 
     start-bit : (j : ℕ) → j < 8 → w .bits (q + getD sync j 0) ≡ true
     start-bit j l =

@@ -193,12 +193,10 @@ fn every_cut(whole: &Capture, cursor: Cursor, changes: &mut BTreeMap<Change, usi
     for &bit in &whole.bits[cursor.position..] {
         cut.bits.push(bit);
         let new = read(&cut, cursor);
-        let stays = law(&old, &new) == Ok(Some(Change::Stays));
-        assert!(!(bit && stays), "{cursor:?}, n {}, {whole:?}", cut.n() - 1);
         for grown in [&new, &all] {
-            let change = law(&old, grown).unwrap_or_else(|broken| {
-                panic!("{broken}: {cursor:?}, n {}, {whole:?}", cut.n() - 1)
-            });
+            let place = || format!("{cursor:?}, n {}, {whole:?}", cut.n() - 1);
+            let change = law(&old, grown).unwrap_or_else(|broken| panic!("{broken}: {}", place()));
+            assert!(!bit || change != Some(Change::Stays), "{}", place());
             if let Some(change) = change {
                 *changes.entry(change).or_default() += 1;
             }
