@@ -79,9 +79,9 @@ module _ (capture : List ℕ) (r : PageRequest) (buffer : List ℕ) (a : Answer)
           let h = request capture r buffer a after call taken-up in
           let g = got capture r buffer a after call taken-up .filled in
           let fits : length (records xs) ≤ length room = omega (arith, g .longest .fits, ap (λ (l : List (Item Frame)). length (records l)) is, length-records recordOf xs y) in
-          subst (λ (number : ℕ). PagedBy rules recordOf number w (r .cursor) (a .items - 1) room answer filled) (sym not-refused) (
+          subst (λ (number : ℕ). PagedBy rules recordOf number w (r .cursor) (again r a .most) room answer filled) (sym not-refused) (
             xs,
-            page-full rules recordOf w (sound w) c (a .items - 1) (length room) (h .inside) xs (stretch-split rules w c xs (y ∷ []) all .0) (omega (arith, as-many)) fits (omega (arith, as-many)),
+            page-full rules recordOf w (sound w) c (again r a .most) (length room) (h .inside) xs (stretch-split rules w c xs (y ∷ []) all .0) (omega (arith, as-many)) fits (omega (arith, as-many)),
             sym (ap (λ (b : Bool). cond b (refused 4 (r .cursor)) answer) (none-left w c xs (omega (arith, as-many)))),
             refl,
           )
