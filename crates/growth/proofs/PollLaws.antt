@@ -28,8 +28,8 @@ module _ (terms : TermNumbers) (capture : List ℕ) (n : ℕ) (bound : Bounded c
   pub gone-on : (old : List ℕ) (m : ℕ) → GrownTo terms old m capture n → (c : CursorNumbers) (kept rest : List Asked) → Kept old m terms c kept → Harvest capture n terms (reached c kept) rest
       → Harvest capture n terms c (kept ++ rest)
   gone-on old m g c [] rest k h = h
-  gone-on old m g c (a ∷ kept) rest (call, z, l, more) h =
-      (page-stays old (record { n = m; terms = terms; cursor = c; most = a .most }) (a .buffer) (a .answer) (a .after) call z l capture n g bound, z, gone-on old m g (next (a .answer)) kept rest more h)
+  gone-on old m g c (a ∷ kept) rest ((call, z), l, more) h =
+      ((page-stays old (record { n = m; terms = terms; cursor = c; most = a .most }) (a .buffer) (a .answer) (a .after) call z l capture n g bound, z), gone-on old m g (next (a .answer)) kept rest more h)
 
   -- so it is from look to look
   pub polled-harvest : (c : CursorNumbers) (looks : List Look) (rest : List Asked) → Polled terms c looks capture n rest → Harvest capture n terms c (pagesOf looks rest)

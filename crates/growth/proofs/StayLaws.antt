@@ -27,7 +27,7 @@ use Rattle.refusal.proofs.RefusalLaws.{admitted, admit}
 use Rattle.numbers.proofs.SizeLaws.{record-length}
 use Rattle.paging.specs.Paging.{Paged, PagedBy, PageCall}
 use Rattle.paging.proofs.HarvestLaws.{not-refused, answered-good}
-use Rattle.growth.specs.Polling.{Bounded, GrownTo}
+use Rattle.growth.specs.Polling.{Bounded, GrownTo, sameOf}
 
 -- no record is smaller where an item changed: a frame stays of its kind, and no record is smaller than that of a gap
 no-smaller : (w v : Capture) → Grown w v → (c : Cursor Context) (x y : Item Frame) → Obeys rules w c x → Obeys rules v c y → length (recordOf x) ≤ length (recordOf y)
@@ -40,10 +40,10 @@ no-smaller w v G c (frame f) y a b =
 
 -- a request that 1 to 3 do not refuse of the old capture, they do not refuse of the grown one
 pub request-stays : (old : List ℕ) (r : PageRequest) → pageRefusal (length old) r ≡ 0 → (capture : List ℕ) (n : ℕ) → r .n ≤ n → Bounded capture n
-    → pageRefusal (length capture) (record { n = n; terms = r .terms; cursor = r .cursor; most = r .most }) ≡ 0
+    → pageRefusal (length capture) (sameOf n r) ≡ 0
 request-stays old r e capture n more bound =
     let h = admitted (length old) r e in
-    admit (length capture) (record { n = n; terms = r .terms; cursor = r .cursor; most = r .most })
+    admit (length capture) (sameOf n r)
     (record { way = h .way; some = h .some; short = bound .short; count = bound .count; inside = omega (arith, h .inside); known = h .known })
 
 module _ (old : List ℕ) (r : PageRequest) (buffer : List ℕ) (a : Answer) (after : List ℕ) (call : PageCall old r buffer a after) (taken-up : a .number ≡ 0) (ends : a .position < r .n)
@@ -77,7 +77,7 @@ module _ (old : List ℕ) (r : PageRequest) (buffer : List ℕ) (a : Answer) (af
       (x ∷ xs, page-grown rules unsettled w v (sound w) (sound v) (keeps w v G) c (x ∷ xs) h recordOf (no-smaller w v G) (omega arith) (r .most) (length buffer) p, e, q)
 
   -- a page that is not refused and ends before n: the same request of the grown capture has the same answer and the same bytes
-  pub page-stays : PageCall capture (record { n = n; terms = r .terms; cursor = r .cursor; most = r .most }) buffer a after
+  pub page-stays : PageCall capture (sameOf n r) buffer a after
   page-stays =
       let e = not-refused old r buffer a after call taken-up in
       subst (λ (k : ℕ). PagedBy rules recordOf k v (r .cursor) (r .most) buffer a after) (sym (request-stays old r e capture n (G .more) bound))
@@ -85,4 +85,4 @@ module _ (old : List ℕ) (r : PageRequest) (buffer : List ℕ) (a : Answer) (af
 
   -- its cursor is never refused for the grown capture
   pub cursor-stays : (most : ℕ) → 0 < most → pageRefusal (length capture) (record { n = n; terms = r .terms; cursor = next a; most = most }) ≡ 0
-  cursor-stays = answered-good capture (record { n = n; terms = r .terms; cursor = r .cursor; most = r .most }) buffer a after page-stays taken-up
+  cursor-stays = answered-good capture (sameOf n r) buffer a after page-stays taken-up

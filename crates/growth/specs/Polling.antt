@@ -13,8 +13,7 @@ use Rattle.call.specs.declared.CursorNumbers.{CursorNumbers}
 use Rattle.call.specs.declared.Answer.{Answer}
 use Rattle.call.specs.declared.PageRequest.{PageRequest}
 use Rattle.call.specs.Call.{termsBy, next}
-use Rattle.paging.specs.Paging.{PageCall}
-use Rattle.paging.specs.Harvest.{Asked, Harvest}
+use Rattle.paging.specs.Harvest.{Asked, PageTaken, Harvest}
 
 -- the bytes and n of a capture that number 2 does not refuse
 pub record Bounded (capture : List ℕ) (n : ℕ) : Type 0 where
@@ -24,6 +23,10 @@ pub record Bounded (capture : List ℕ) (n : ℕ) : Type 0 where
 -- the capture has grown: what its bytes and n were, and what they are
 abbrev pub GrownTo : TermNumbers → List ℕ → ℕ → List ℕ → ℕ → Type 0
 GrownTo terms old n capture m = Grown (captureOf old n (termsBy terms)) (captureOf capture m (termsBy terms))
+
+-- the same request, of a capture of n bits
+abbrev pub sameOf : ℕ → PageRequest → PageRequest
+sameOf n r = record { n = n; terms = r .terms; cursor = r .cursor; most = r .most }
 
 -- the recipe for a page that reaches n: the same cursor is asked again, with most one less than the items answered
 abbrev pub again : PageRequest → Answer → PageRequest
@@ -41,8 +44,7 @@ pub record OneLess (n : ℕ) (a : Answer) (after : List ℕ) (b : Answer) (later
 abbrev pub Kept : List ℕ → ℕ → TermNumbers → CursorNumbers → List Asked → Type 0
 Kept capture n terms cursor [] = Unit {0}
 Kept capture n terms cursor (a ∷ rest) =
-    PageCall capture (record { n = n; terms = terms; cursor = cursor; most = a .most }) (a .buffer) (a .answer) (a .after)
-    × (a .answer .number ≡ 0)
+    PageTaken capture n terms cursor a
     × (a .answer .position < n)
     × Kept capture n terms (next (a .answer)) rest
 

@@ -85,7 +85,7 @@ module _ (capture : List ℕ) (n : ℕ) (terms : TermNumbers) where
   -- each page of a harvest is delivered from the cursor that the last answered
   delivered : (c : CursorNumbers) (rs : List Asked) → Harvest capture n terms c rs → Delivered rules recordOf (captureBy capture n terms) (cursorBy c) (deliveries rs)
   delivered c [] h = h
-  delivered c (a ∷ rs) (call, z, rest) =
+  delivered c (a ∷ rs) ((call, z), rest) =
       (got capture (record { n = n; terms = terms; cursor = c; most = a .most }) (a .buffer) (a .answer) (a .after) call z .filled, delivered (next (a .answer)) rs rest)
 
   -- demand 3: if no request is refused, the pages joined are the records of the one reading, and the items counted are its items

@@ -17,13 +17,16 @@ pub record Asked : Type 0 where
   pub answer : Answer
   pub after : List ℕ
 
+-- a page asked with a cursor, and not refused
+abbrev pub PageTaken : List ℕ → ℕ → TermNumbers → CursorNumbers → Asked → Type 0
+PageTaken capture n terms cursor a =
+    PageCall capture (record { n = n; terms = terms; cursor = cursor; most = a .most }) (a .buffer) (a .answer) (a .after)
+    × (a .answer .number ≡ 0)
+
 -- the same capture, n and terms throughout; no request is refused; the last cursor is at n
 abbrev pub Harvest : List ℕ → ℕ → TermNumbers → CursorNumbers → List Asked → Type 0
 Harvest capture n terms cursor [] = cursor .position ≡ n
-Harvest capture n terms cursor (a ∷ rest) =
-    PageCall capture (record { n = n; terms = terms; cursor = cursor; most = a .most }) (a .buffer) (a .answer) (a .after)
-    × (a .answer .number ≡ 0)
-    × Harvest capture n terms (next (a .answer)) rest
+Harvest capture n terms cursor (a ∷ rest) = PageTaken capture n terms cursor a × Harvest capture n terms (next (a .answer)) rest
 
 -- what was delivered
 abbrev pub deliveries : List Asked → List (Delivery ℕ)
