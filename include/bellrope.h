@@ -23,49 +23,55 @@
  * A capture may be harvested while it is recorded: bellrope_settled pages what more bits can no
  * longer change, and leaves a cursor that stays good as the capture grows.
  *
- * This header has the names first, then the two calls of the library, and at the end the forms of
- * them used here. Those stay as they are when a field is added to what is read, to a cursor or to
- * a record; the two calls then take one number more.
+ * Where a whole timeslot of 64 kbit/s was recorded, bellrope_take_channel takes one of its eight
+ * channels out as such a capture, and bellrope_put_channel puts it back among the other seven.
  *
- * What is lent: a capture and records are only read, a buffer changes only as said at its call, and
- * a refused call changes no lent byte. The two slices of a call must not overlap. */
+ * This header has the names first, then the four calls of the library, and at the end the forms of
+ * paging and writing used here. Those stay as they are when a field is added to what is read, to a
+ * cursor or to a record; paging and writing then take one number more.
+ *
+ * What is lent: what is const is only read, a buffer or timeslot changes only as said at its call,
+ * and a refused call changes no lent byte. The two slices of a call must not overlap. */
 #ifndef BELLROPE_H
 #define BELLROPE_H
 
 #include <stddef.h>
 #include <stdint.h>
 
-#define BELLROPE_VERSION "0.4"
+#define BELLROPE_VERSION "0.5"
 
 #ifdef __cplusplus
 extern "C" {
 #endif
 
 enum {
-	BELLROPE_BYTES_MOST = 65536, /* of a capture, of records to be written and of a buffer to
-	                                write to; a page buffer may have any length */
-	BELLROPE_RECORD_MOST = 31    /* bytes of the longest record */
+	BELLROPE_BYTES_MOST = 65536,  /* of a capture, of records to be written and of a buffer to
+	                                 write to; a page buffer may have any length */
+	BELLROPE_RECORD_MOST = 31,    /* bytes of the longest record */
+	BELLROPE_OCTETS_MOST = 65536, /* of a timeslot */
+	BELLROPE_CHANNEL_MOST = 8192  /* bytes of a channel taken out of one */
 };
 
 enum bellrope_direction { BELLROPE_UPLINK = 0, BELLROPE_DOWNLINK = 1 };
 
 /* The number of an answer. One above 0 is given exactly when what it says holds; if several hold,
- * the lowest, but for 4 to 6 see writing. */
+ * the lowest, but for 4 to 6 see writing, and 7 comes before all others. */
 enum bellrope_number {
 	BELLROPE_TAKEN = 0,       /* not refused */
 	BELLROPE_BAD_REQUEST = 1, /* direction above 1, most 0, or too many bytes of records */
-	BELLROPE_TOO_LONG = 2,    /* too many bytes of capture or of buffer to write to, or n above
-	                             8 times the capture's bytes */
+	BELLROPE_TOO_LONG = 2,    /* too many bytes of capture or of buffer to write to, n above 8
+	                             times the capture's bytes, or too many octets of timeslot */
 	BELLROPE_BAD_CURSOR = 3,  /* position beyond n (writing: beyond 8 times the buffer's bytes),
 	                             or context above 5 */
 	BELLROPE_NO_ROOM = 4,     /* paging: an item is left and the first does not fit the buffer,
 	                             so ask again with a bigger one; writing: a frame would end past
-	                             the buffer */
+	                             the buffer; a channel: fewer bytes than its bits need */
 	BELLROPE_UNSOUND = 5,     /* writing: unknown kind, gap, cut short, a bit set that must be
 	                             zero, tail below the least, or control or extended no coding of
 	                             that kind in that direction */
-	BELLROPE_NOT_DUE = 6      /* writing: sound, but its start is not the position then, or its
+	BELLROPE_NOT_DUE = 6,     /* writing: sound, but its start is not the position then, or its
 	                             verdict or its kind is not due in that context */
+	BELLROPE_NO_CHANNEL = 7   /* channel outside 1 to 8 */
 };
 
 /* The context of a cursor is what was read last. It decides which frames may come next, and how
@@ -131,7 +137,7 @@ typedef struct {
  *   buffer                  where the records go
  * Before n a page that is not refused has at least one item; at n it has none. Should the capture
  * grow, a page that ends before n would be the same again; for one that ends at n see
- * bellrope_settled. Here and in writing, pointers must be valid even where the length is 0. */
+ * bellrope_settled. In all four calls pointers must be valid even where the length is 0. */
 bellrope_answer bellrope_page(const uint8_t *capture, size_t capture_len, uint64_t n,
                               uint64_t direction, uint8_t profile, uint64_t position,
                               uint64_t context, uint64_t most, uint8_t *buffer,
@@ -151,7 +157,28 @@ bellrope_answer bellrope_write(const uint8_t *records, size_t records_len, uint6
                                uint8_t profile, uint64_t position, uint64_t context,
                                uint8_t *buffer, size_t buffer_len);
 
-/* From here on: the same two calls over structs, and readers of what they answer. All is inline.
+/* One channel of a timeslot, taken out and put back. Bit k of each octet belongs to channel k, k
+ * from 1 to 8, top bit first: channel 1 has the top bits. A channel has a bit for each octet of the
+ * timeslot, from the top bit of its first byte down, in (timeslot_len + 7) / 8 bytes. Both calls
+ * answer a number alone: 0, or 7, 2 or 4.
+ *
+ * Taking out puts them at the front of the buffer; a last byte partly filled has zeros below, and
+ * the rest of the buffer stands. What was taken out is a capture with n = timeslot_len:
+ *
+ *   uint8_t bytes[BELLROPE_CHANNEL_MOST];
+ *   uint64_t number = bellrope_take_channel(octets, length, 1, bytes, sizeof bytes);
+ *   if (number != BELLROPE_TAKEN) return number;
+ *   bellrope_capture capture = bellrope_capture_of(bytes, sizeof bytes, length, BELLROPE_UPLINK);
+ *
+ * A longer recording goes by timeslots of a multiple of eight octets each, and the bytes joined.
+ * Putting back changes the channel's bits and no others; what bytes have behind them is not looked
+ * at. */
+uint64_t bellrope_take_channel(const uint8_t *timeslot, size_t timeslot_len, uint64_t channel,
+                               uint8_t *buffer, size_t buffer_len);
+uint64_t bellrope_put_channel(uint8_t *timeslot, size_t timeslot_len, uint64_t channel,
+                              const uint8_t *bytes, size_t bytes_len);
+
+/* From here on: paging and writing over structs, and readers of what they answer. All is inline.
  * Where a length is 0, the pointer may be NULL. */
 
 /* What is read. Make it by bellrope_capture_of: fields added later then are 0. */
@@ -291,9 +318,9 @@ static inline const bellrope_about *bellrope_about_kind(uint64_t kind) {
 static inline const char *bellrope_number_name(uint64_t number) {
 	static const char *const names[] = {
 		"taken", "bad request", "too long", "bad cursor", "no room", "unsound record",
-		"record not due", "unknown number"
+		"record not due", "no such channel", "unknown number"
 	};
-	return names[number <= BELLROPE_NOT_DUE ? number : BELLROPE_NOT_DUE + 1];
+	return names[number <= BELLROPE_NO_CHANNEL ? number : BELLROPE_NO_CHANNEL + 1];
 }
 
 /* The bytes of a record of this kind; 0 for an unknown kind. */

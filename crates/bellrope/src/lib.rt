@@ -1,6 +1,7 @@
 // The calls of the C front server: the numbers and byte slices of each, handed to the room that does the work, with its promise.
 ghost use Rattle.paging.specs.Paging.{PageCall};
 ghost use Rattle.writing.specs.Writing.{WriteCall};
+ghost use Rattle.timeslot.specs.Timeslot.{TakeCall, PutCall};
 use call::Answer;
 use call::CursorNumbers;
 use call::PageRequest;
@@ -78,4 +79,20 @@ pub extern "C" fn bellrope_write(
         },
         buffer,
     )
+}
+
+// A channel of a timeslot taken out into the front of a buffer, whose rest is kept: the number alone.
+#[no_mangle]
+pub extern "C" fn bellrope_take_channel(timeslot: &[u8], channel: u64, buffer: &mut [u8]) -> u64
+    ensures { λ r. ⌜ TakeCall (now (timeslot .entry)) channel (now (buffer .entry)) r (now (buffer .exit)) ⌝ }
+{
+    timeslot::take(timeslot, channel, buffer)
+}
+
+// A channel of a timeslot put back, the other seven kept: the number alone.
+#[no_mangle]
+pub extern "C" fn bellrope_put_channel(timeslot: &mut [u8], channel: u64, bytes: &[u8]) -> u64
+    ensures { λ r. ⌜ PutCall (now (timeslot .entry)) channel (now (bytes .entry)) r (now (timeslot .exit)) ⌝ }
+{
+    timeslot::put(timeslot, channel, bytes)
 }

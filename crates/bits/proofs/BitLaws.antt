@@ -28,7 +28,7 @@ toN-one true = refl
 toN-one false = refl
 
 -- and a number below 2 by its bit
-one-toN : (x : ℕ) → x < 2 → toN (eqb x 1) ≡ x
+pub one-toN : (x : ℕ) → x < 2 → toN (eqb x 1) ≡ x
 one-toN zero h = refl
 one-toN (suc zero) h = refl
 one-toN (suc (suc x)) h = absurd (not-suc-le-zero (le-of-suc-le-suc (le-of-suc-le-suc h)))
@@ -122,14 +122,18 @@ pub length-twenty : (g : ℕ → Bool) → length (twenty g) ≡ 20
 unfolding twenty
 length-twenty g = length-map-count (octetOf g) 20 0
 
--- the bits of the twenty octets are g 0 to g 159
-pub twenty-bit : (g : ℕ → Bool) (i : ℕ) → i < 160 → bitAt (twenty g) i ≡ g i
-unfolding twenty
-twenty-bit g i h =
-    let at : getD (map (octetOf g) (count 20 0)) (i / 8) 0 ≡ octetOf g (0 + i / 8) = getD-map-count (octetOf g) 20 0 (i / 8) (omega arith) in
+-- the bits of m octets are g 0, g 1, ..
+pub octets-bit : (g : ℕ → Bool) (m i : ℕ) → i < 8 * m → bitAt (map (octetOf g) (count m 0)) i ≡ g i
+octets-bit g m i h =
+    let at : getD (map (octetOf g) (count m 0)) (i / 8) 0 ≡ octetOf g (0 + i / 8) = getD-map-count (octetOf g) m 0 (i / 8) (omega arith) in
     let e : 8 * (0 + i / 8) + i % 8 ≡ i = omega arith in
     let one : octetOf g (0 + i / 8) / 2 ^ (7 - i % 8) % 2 ≡ toN (g i) = rw e at (octet-bit g (0 + i / 8) (i % 8) (omega arith)) in
     ap (λ (x : ℕ). eqb (x / 2 ^ (7 - i % 8) % 2) 1) at ∙ ap (λ (x : ℕ). eqb x 1) one ∙ toN-one (g i)
+
+-- those of the twenty are g 0 to g 159
+pub twenty-bit : (g : ℕ → Bool) (i : ℕ) → i < 160 → bitAt (twenty g) i ≡ g i
+unfolding twenty
+twenty-bit g i h = octets-bit g 20 i h
 
 -- bit j of byte k, as bitAt has it
 pub byte-bit : (xs : List ℕ) (k j : ℕ) → j < 8 → getD xs k 0 / 2 ^ (7 - j) % 2 ≡ toN (bitAt xs (8 * k + j))

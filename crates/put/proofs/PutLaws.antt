@@ -23,7 +23,8 @@ module _ (x k b : ℕ) (hb : b < 2) where
   low-part : putIn x k b % 2 ^ k ≡ x % 2 ^ k
   low-part = low (x / 2 ^ k / 2 * 2 + b) k (mod-lt x (pow-pos k))
 
-  put-same : putIn x k b / 2 ^ k % 2 ≡ b
+  -- the bit put
+  pub put-same : putIn x k b / 2 ^ k % 2 ≡ b
   put-same = rw high-part (omega arith)
 
   put-above : (d : ℕ) → putIn x k b / 2 ^ (k + (1 + d)) ≡ x / 2 ^ (k + (1 + d))
@@ -42,7 +43,7 @@ put-below x d j b hb =
     bit-of-low (putIn x (d + (1 + j)) b) d j ∙ ap (λ m. m % 2 ^ (1 + j) / 2 ^ j) (low-part x (d + (1 + j)) b hb) ∙ sym (bit-of-low x d j)
 
 -- the other bits of a byte
-put-apart : (x k b j : ℕ) → b < 2 → (j ≡ k → ⊥) → putIn x k b / 2 ^ j % 2 ≡ x / 2 ^ j % 2
+pub put-apart : (x k b j : ℕ) → b < 2 → (j ≡ k → ⊥) → putIn x k b / 2 ^ j % 2 ≡ x / 2 ^ j % 2
 put-apart x k b j hb ne =
     by-cases (decLt j k)
     (λ (l : j < k).

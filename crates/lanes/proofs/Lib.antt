@@ -1,0 +1,4 @@
+-- The laws of this crate, for the crates above it.
+-- Assumes nothing.
+pub mod LaneLaws
+pub mod GatherLaws

@@ -1,0 +1,30 @@
+-- `lanes::with_bits` meets its contract.
+-- Assumes nothing.
+use mathlib.Core.Path.{_≡_, ap, sym, _∙_}
+use Prim.Native.Nat.{_*_, _%_, _^_}
+use native.Mathlib.Omega.{arith}
+use borrow.Author.Needs.{needs}
+use lib.Bits.{and-le-l}
+use Rattle.lanes.proofs.GatherLaws.{ones, shift-up, put-is, put-octets, put-fits}
+use Rattle.lanes.proofs.with_bits.Statement.{statement}
+use Rattle.lanes.proofs.with_bits.Tie as tie
+
+sub-result : tie.Need-sub-result
+sub-result c = and-le-l (c .args .w) _
+
+add-result : tie.Need-add-result
+add-result c =
+    let a = c .before .args in
+    rw (shift-up ones (a .d) (omega arith) (omega arith), shift-up (c .spread .result) (a .d) (c .spread .ensures .0) (omega arith))
+    (record { fits = put-fits (a .w) (c .spread .result) (a .d) (omega arith) (c .spread .ensures .0) (omega arith) })
+
+returns : tie.Need-returns
+returns c f g b e shows =
+    let a = c .before .args in
+    let put = c .spread .ensures .1 g b shows in
+    rw (shift-up ones (a .d) (omega arith) (omega arith), shift-up (c .spread .result) (a .d) (c .spread .ensures .0) (omega arith))
+    (record { octets = put-octets f (a .d) b (a .w) (omega arith) e g; is = rw put (put-is f (a .d) b (a .w) (omega arith) e g) })
+
+pub with-bits-spec : {M : Type 1} → statement M
+with-bits-spec =
+    tie.close (tie.spec (λ c. search needs) sub-result (λ c κs. search needs) (λ c. search needs) add-result returns)

@@ -1,0 +1,66 @@
+// Eight octets as one number, the first lowest, and the same bit of each of them as a byte.
+ghost use mathlib.Core.Path.{_≡_};
+ghost use mathlib.Core.Bool.{Bool};
+ghost use mathlib.Core.List.{List, map};
+ghost use Prim.Native.Nat.{ℕ, _+_, _<_, _≤_};
+ghost use lib.ListN.{length, getD};
+ghost use Rattle.bits.specs.Bit.{toN, number, count};
+ghost use Rattle.bits.specs.Put.{putIn};
+ghost use Rattle.put.specs.Put.{Shows};
+ghost use Rattle.lanes.specs.Lanes.{lanes, Eight, bitOf, FilledTo};
+
+// A one in each of eight octets.
+const ONES: u64 = 72340172838076673;
+
+// The octets from one on as a number; where they are eight, a processor reads them at once.
+pub fn load(s: &[u8], at: usize, c: usize) -> u64
+    requires { ⌜ (at + c ≤ length (now s)) × (c ≤ 8) ⌝ }
+    ensures { λ r. ⌜ r ≡ lanes (map (λ i. getD (now (s .entry)) i 0) (count c at)) ⌝ }
+{
+    let mut w = 0u64;
+    for j in 0..c {
+        w = w * 256 + s[at + (c - 1 - j)] as u64;
+    }
+    w
+}
+
+// The octets from one on made those of a number.
+pub fn store(s: &mut [u8], at: usize, c: usize, w: u64)
+    requires { ⌜ (at + c ≤ length (now s)) × (c ≤ 8) ⌝ }
+    ensures { λ _. ⌜ ((f : ℕ → ℕ) (d : List ℕ) → Eight f at w → FilledTo f at d (now (s .entry)) → FilledTo f (at + c) d (now (s .exit))) ⌝ }
+{
+    let mut left = w;
+    for j in 0..c {
+        s[at + j] = (left % 256) as u8;
+        left = left / 256;
+    }
+}
+
+// Bit d of each of eight octets as a byte, the first octet's on top. Both halves of the eight are folded into one, so that a product has room for all the
+// places to which a multiplication moves them; those wanted stand side by side in it.
+pub fn gathered(w: u64, d: usize) -> u8
+    requires { ⌜ d < 8 ⌝ }
+    ensures { λ r. ⌜ ((f : ℕ → ℕ) (a : ℕ) → Eight f a w → r ≡ number (map (λ i. bitOf (f i) d) (count 8 a))) ⌝ }
+{
+    let m = (w & (ONES << d)) >> d;
+    let folded = m % 4294967296 * 16 + m / 4294967296;
+    (folded * 134480385 / 16777216 % 256) as u8
+}
+
+// The bits of a byte in eight octets, the first of them in the lowest.
+fn spread(v: u8) -> u64
+    ensures { λ r. ⌜ (r ≤ 72340172838076673) × ((g : ℕ → Bool) (a : ℕ) → Shows v g a → r ≡ lanes (map (λ i. toN (g i)) (count 8 a))) ⌝ }
+{
+    let x = v as u64;
+    let folded = x / 16 + x % 16 * 4294967296;
+    folded * 134480385 / 8 & ONES
+}
+
+// Eight octets with bit d of each made a bit of a byte, the first octet's the top one.
+pub fn with_bits(w: u64, d: usize, v: u8) -> u64
+    requires { ⌜ d < 8 ⌝ }
+    ensures { λ r. ⌜ ((f : ℕ → ℕ) (g : ℕ → Bool) (a : ℕ) → Eight f a w → Shows v g a → Eight (λ i. putIn (f i) d (toN (g i))) a r) ⌝ }
+{
+    let mask = ONES << d;
+    w - (w & mask) + (spread(v) << d)
+}

@@ -1,0 +1,2 @@
+pub mod Timeslot
+pub mod Share

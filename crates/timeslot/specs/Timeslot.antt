@@ -1,0 +1,61 @@
+-- The whole timeslot: octets of 64 kbit/s, and the eight channels in them (document 02, Ask 3).
+-- Assumes nothing.
+use mathlib.Core.Path.{_≡_}
+use mathlib.Core.Bool.{Bool, cond}
+use mathlib.Core.List.{List, _++_, map}
+use Prim.Native.Nat.{ℕ, zero, suc, _+_, _*_, _-_, _/_}
+use lib.Dec.{eqb, ltb}
+use lib.ListN.{length, getD, drop}
+use Rattle.bits.specs.Bit.{bitAt, toN, count, octetOf, bitsFrom}
+use Rattle.bits.specs.Put.{putIn}
+use Rattle.channel.specs.declared.Terms.{Terms}
+use Rattle.channel.specs.Frames.{Capture}
+
+-- bit k of each octet belongs to channel k, k from 1 to 8, top bit first: bit i of channel k is bit k of octet i
+abbrev pub channelBit : List ℕ → ℕ → ℕ → Bool
+channelBit timeslot k i = bitAt timeslot (8 * i + (k - 1))
+
+-- the bytes that so many bits need
+abbrev pub bytesFor : ℕ → ℕ
+bytesFor bits = (bits + 7) / 8
+
+-- channel k taken out; a last byte partly filled has zeros below
+unfoldable pub takenOut : List ℕ → ℕ → List ℕ
+takenOut timeslot k = map (octetOf (bitsFrom (channelBit timeslot k) (length timeslot) 0)) (count (bytesFor (length timeslot)) 0)
+
+-- octet i with its bit k, which weighs 2 ^ (8 - k), made bit i of a channel's bytes; the other seven are kept
+abbrev pub octetWith : List ℕ → ℕ → List ℕ → ℕ → ℕ
+octetWith timeslot k bytes i = putIn (getD timeslot i 0) (8 - k) (toN (bitAt bytes i))
+
+-- channel k put back, a bit into each octet
+unfoldable pub putBack : List ℕ → ℕ → List ℕ → List ℕ
+putBack timeslot k bytes = map (octetWith timeslot k bytes) (count (length timeslot) 0)
+
+-- the numbers, in the order 7, 2, 4: a channel number outside 1 to 8; over 65,536 octets of timeslot; fewer bytes than the channel's bits need; 0 where
+-- none of them is given
+abbrev pub refusal : ℕ → ℕ → ℕ → ℕ
+refusal k octets bytes =
+    cond (eqb k 0) 7
+    (cond (ltb 8 k) 7
+    (cond (ltb 65536 octets) 2
+    (cond (ltb bytes (bytesFor octets)) 4 0)))
+
+-- by the number: what was made, or after a refusal what was there
+abbrev pub afterBy : ℕ → List ℕ → List ℕ → List ℕ
+afterBy zero made before = made
+afterBy (suc number) made before = before
+
+-- taking out, every request: the timeslot, the channel number, the buffer; the number answered, and the buffer after it, in which the channel stands in
+-- front and the rest is kept
+pub record TakeCall (timeslot : List ℕ) (k : ℕ) (buffer : List ℕ) (number : ℕ) (after : List ℕ) : Type 0 where
+  pub answer : number ≡ refusal k (length timeslot) (length buffer)
+  pub buffer-is : after ≡ afterBy number (takenOut timeslot k ++ drop (bytesFor (length timeslot)) buffer) buffer
+
+-- putting back, every request: the timeslot, the channel number, the bytes; the number answered, and the timeslot after it
+pub record PutCall (timeslot : List ℕ) (k : ℕ) (bytes : List ℕ) (number : ℕ) (after : List ℕ) : Type 0 where
+  pub answer : number ≡ refusal k (length timeslot) (length bytes)
+  pub timeslot-is : after ≡ afterBy number (putBack timeslot k bytes) timeslot
+
+-- channel k of a timeslot as a capture: n is the number of octets
+abbrev pub channelOf : List ℕ → ℕ → Terms → Capture
+channelOf timeslot k t = record { bits = channelBit timeslot k; n = length timeslot; terms = t }
