@@ -2,7 +2,7 @@
 ghost use mathlib.Core.Path.{_≡_};
 ghost use mathlib.Core.Bool.{Bool};
 ghost use mathlib.Core.List.{List, map};
-ghost use Prim.Native.Nat.{ℕ, _+_, _<_, _≤_};
+ghost use Prim.Native.Nat.{ℕ, _+_, _*_, _^_, _<_, _≤_};
 ghost use lib.ListN.{length, getD};
 ghost use Rattle.bits.specs.Bit.{toN, number, count};
 ghost use Rattle.bits.specs.Put.{putIn};
@@ -12,6 +12,14 @@ ghost use Rattle.lanes.specs.Lanes.{lanes, Eight, bitOf, FilledTo};
 // A one in each of eight octets.
 const ONES: u64 = 72340172838076673;
 
+// A number above one octet more.
+fn above(w: u64, x: u8) -> u64
+    requires { ⌜ w < 2 ^ 56 ⌝ }
+    ensures { λ r. ⌜ r ≡ w * 256 + x ⌝ }
+{
+    w * 256 + x as u64
+}
+
 // The octets from one on as a number; where they are eight, a processor reads them at once.
 pub fn load(s: &[u8], at: usize, c: usize) -> u64
     requires { ⌜ (at + c ≤ length (now s)) × (c ≤ 8) ⌝ }
@@ -19,7 +27,7 @@ pub fn load(s: &[u8], at: usize, c: usize) -> u64
 {
     let mut w = 0u64;
     for j in 0..c {
-        w = w * 256 + s[at + (c - 1 - j)] as u64;
+        w = above(w, s[at + (c - 1 - j)]);
     }
     w
 }
@@ -49,7 +57,7 @@ pub fn gathered(w: u64, d: usize) -> u8
 
 // The bits of a byte in eight octets, the first of them in the lowest.
 fn spread(v: u8) -> u64
-    ensures { λ r. ⌜ (r ≤ 72340172838076673) × ((g : ℕ → Bool) (a : ℕ) → Shows v g a → r ≡ lanes (map (λ i. toN (g i)) (count 8 a))) ⌝ }
+    ensures { λ r. ⌜ ((g : ℕ → Bool) (a : ℕ) → Shows v g a → r ≡ lanes (map (λ i. toN (g i)) (count 8 a))) × (r ≤ 72340172838076673) ⌝ }
 {
     let x = v as u64;
     let folded = x / 16 + x % 16 * 4294967296;

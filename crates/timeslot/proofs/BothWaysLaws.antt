@@ -14,8 +14,8 @@ use Rattle.channel.specs.Frames.{captureOf, Frame, rules}
 use Rattle.channel.specs.Growth.{Agree}
 use Rattle.channel.proofs.UnseenLaws.{reading-same}
 use Rattle.timeslot.specs.Timeslot.{channelBit, bytesFor, takenOut, putBack, refusal, afterBy, TakeCall, PutCall, channelOf}
-use Rattle.timeslot.proofs.CallLaws.{admitted}
-use Rattle.timeslot.proofs.TimeslotLaws.{length-taken, taken-bit, taken-same, length-put, put-bit, put-other, put-taken, put-either}
+use Rattle.timeslot.proofs.CallLaws.{admitted, enough-same}
+use Rattle.timeslot.proofs.TimeslotLaws.{length-taken, taken-bit, taken-same, length-put, put-bit, put-other, put-unseen, put-taken, put-either}
 
 -- no second number and no second buffer fit a request to take out
 pub take-one : (t : List ℕ) (k : ℕ) (buffer : List ℕ) (m n : ℕ) (x y : List ℕ) → TakeCall t k buffer m x → TakeCall t k buffer n y → (m ≡ n) × (x ≡ y)
@@ -58,6 +58,13 @@ module _ (t : List ℕ) (k : ℕ) (buffer after : List ℕ) (p : TakeCall t k bu
       let fit = admitted k (length t) (length buffer) (sym (p .answer)) in
       let none : number ≡ 0 = q .answer ∙ ap (refusal k (length t)) taken-length ∙ sym (p .answer) in
       (none, q .timeslot-is ∙ ap (λ (n : ℕ). afterBy n (putBack t k after) t) none ∙ put-taken t k after (fit .from) (fit .to) taken-bits)
+
+-- bytes that have the same bits of the channel are put back alike: what they have behind these is not looked at
+pub bytes-unseen : (t : List ℕ) (k : ℕ) (a b : List ℕ) (m n : ℕ) (x y : List ℕ) → bytesFor (length t) ≤ length a → bytesFor (length t) ≤ length b → Agree (length t) (bitAt a) (bitAt b)
+    → PutCall t k a m x → PutCall t k b n y → (m ≡ n) × (x ≡ y)
+bytes-unseen t k a b m n x y la lb same p q =
+    let number : m ≡ n = p .answer ∙ enough-same k (length t) (length a) (length b) la lb ∙ sym (q .answer) in
+    (number, p .timeslot-is ∙ ap (λ (u : List ℕ). afterBy m u t) (put-unseen t k a b same) ∙ ap (λ (number : ℕ). afterBy number (putBack t k b) t) number ∙ sym (q .timeslot-is))
 
 -- putting back keeps the number of octets, refused or not
 pub put-length : (t : List ℕ) (k : ℕ) (bytes : List ℕ) (number : ℕ) (u : List ℕ) → PutCall t k bytes number u → length u ≡ length t

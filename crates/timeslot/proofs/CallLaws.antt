@@ -1,13 +1,15 @@
 -- The calls: which requests are refused, and what a refusal leaves.
 -- Assumes nothing.
 use mathlib.Core.Path.{_≡_, refl}
+use mathlib.Core.Bool.{Bool, true, false, _||_}
 use mathlib.Core.List.{List}
 use Prim.Native.Nat.{ℕ, zero, suc, _<_, _≤_}
 use native.Mathlib.Omega.{arith}
-use borrow.Author.Tests.{ltb-false, eqb-false}
+use borrow.Author.Tests.{le-ltb, ltb-false, eqb-false}
 use lib.Dec.{eqb, ltb}
 use Rattle.call.proofs.NumberLaws.{passed}
-use Rattle.timeslot.specs.Timeslot.{bytesFor, refusal, afterBy}
+use Rattle.timeslot.specs.Timeslot.{bytesFor, outside, refusal, afterBy}
+use Rattle.channel.proofs.BoolLaws.{never}
 
 -- what the numbers ask of a request
 pub record Admitted (k octets bytes : ℕ) : Type 0 where
@@ -19,17 +21,24 @@ pub record Admitted (k octets bytes : ℕ) : Type 0 where
 -- it holds where they do not refuse it
 pub admitted : (k octets bytes : ℕ) → refusal k octets bytes ≡ 0 → Admitted k octets bytes
 admitted k octets bytes e =
-    let (a, e₁) = passed (eqb k 0) 7 _ (omega arith) e in
-    let (b, e₂) = passed (ltb 8 k) 7 _ (omega arith) e₁ in
-    let (c, e₃) = passed (ltb 65536 octets) 2 _ (omega arith) e₂ in
-    let (d, e₄) = passed (ltb bytes (bytesFor octets)) 4 _ (omega arith) e₃ in
-    let z = eqb-false k 0 a in
+    let (a, e₁) = passed (outside k) 7 _ (omega arith) e in
+    let (b, e₂) = passed (ltb 65536 octets) 2 _ (omega arith) e₁ in
+    let (c, e₃) = passed (ltb bytes (bytesFor octets)) 4 _ (omega arith) e₂ in
+    let (some, most) = inside k (eqb k 0) refl a in
     record {
-      from = omega arith;
-      to = omega (arith, ltb-false 8 k b);
-      short = omega (arith, ltb-false 65536 octets c);
-      room = omega (arith, ltb-false bytes (bytesFor octets) d);
+      from = some;
+      to = most;
+      short = omega (arith, ltb-false 65536 octets b);
+      room = omega (arith, ltb-false bytes (bytesFor octets) c);
     }
+  where
+    inside : (k : ℕ) (zero-is : Bool) → eqb k 0 ≡ zero-is → zero-is || ltb 8 k ≡ false → (0 < k) × (k ≤ 8)
+    inside k true e h = absurd (never h)
+    inside k false e h = let z = eqb-false k 0 e in (omega arith, omega (arith, ltb-false 8 k h))
+
+-- bytes that are enough are never too many
+pub enough-same : (k octets a b : ℕ) → bytesFor octets ≤ a → bytesFor octets ≤ b → refusal k octets a ≡ refusal k octets b
+enough-same k octets a b x y = rw (le-ltb a (bytesFor octets) x, le-ltb b (bytesFor octets) y)
 
 -- a refusal leaves what was there
 pub refused-after : (number : ℕ) (made before : List ℕ) → (number ≡ 0 → ⊥) → before ≡ afterBy number made before

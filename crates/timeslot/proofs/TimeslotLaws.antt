@@ -14,7 +14,7 @@ use lib.ListN.{length, getD, List·getD-eq-default}
 use lib.Seq.{ext-getD}
 use Rattle.bits.specs.Bit.{bitAt, toN, count, octetOf, bitsFrom}
 use Rattle.bits.proofs.BitLaws.{toN-lt, toN-one, unseen, octets-bit}
-use Rattle.bits.proofs.CountLaws.{length-map-count, getD-map-count}
+use Rattle.bits.proofs.CountLaws.{length-map-count, getD-map-count, map-count-same}
 use Rattle.bits.specs.Put.{putIn}
 use Rattle.put.proofs.PutLaws.{put-same, put-apart}
 use Rattle.lanes.specs.Lanes.{bitOf}
@@ -66,6 +66,12 @@ put-other t k bytes j i a b c d ne =
     (λ (g : ¬ (i < length t)).
     rw (List·getD-eq-default (putBack t k bytes) 0 {n = i} (omega (arith, length-put t k bytes)), List·getD-eq-default t 0 {n = i} (omega arith)))
     ∙ sym (channel-bit t j i c d)
+
+-- what bytes have behind the channel's bits is not looked at
+pub put-unseen : (t : List ℕ) (k : ℕ) (a b : List ℕ) → ((i : ℕ) → i < length t → bitAt a i ≡ bitAt b i) → putBack t k a ≡ putBack t k b
+unfolding putBack
+put-unseen t k a b same =
+    map-count-same (octetWith t k a) (octetWith t k b) (length t) 0 0 (λ i l. ap (λ (x : Bool). putIn (getD t (0 + i) 0) (8 - k) (toN x)) (same (0 + i) (rw (zero-add i) l)))
 
 -- a timeslot into which its own bits are put is as it was
 pub put-taken : (t : List ℕ) (k : ℕ) (bytes : List ℕ) → 0 < k → k ≤ 8 → ((i : ℕ) → i < length t → bitAt bytes i ≡ channelBit t k i) → putBack t k bytes ≡ t

@@ -1,7 +1,7 @@
 -- The whole timeslot: octets of 64 kbit/s, and the eight channels in them (document 02, Ask 3).
 -- Assumes nothing.
 use mathlib.Core.Path.{_≡_}
-use mathlib.Core.Bool.{Bool, cond}
+use mathlib.Core.Bool.{Bool, cond, _||_}
 use mathlib.Core.List.{List, _++_, map}
 use Prim.Native.Nat.{ℕ, zero, suc, _+_, _*_, _-_, _/_}
 use lib.Dec.{eqb, ltb}
@@ -31,14 +31,14 @@ octetWith timeslot k bytes i = putIn (getD timeslot i 0) (8 - k) (toN (bitAt byt
 unfoldable pub putBack : List ℕ → ℕ → List ℕ → List ℕ
 putBack timeslot k bytes = map (octetWith timeslot k bytes) (count (length timeslot) 0)
 
--- the numbers, in the order 7, 2, 4: a channel number outside 1 to 8; over 65,536 octets of timeslot; fewer bytes than the channel's bits need; 0 where
+-- a channel number outside 1 to 8
+abbrev pub outside : ℕ → Bool
+outside k = eqb k 0 || ltb 8 k
+
+-- the numbers, in the order 7, 2, 4: a channel number outside 1 to 8; a timeslot of over 65,536 octets; fewer bytes than the channel's bits need; 0 where
 -- none of them is given
 abbrev pub refusal : ℕ → ℕ → ℕ → ℕ
-refusal k octets bytes =
-    cond (eqb k 0) 7
-    (cond (ltb 8 k) 7
-    (cond (ltb 65536 octets) 2
-    (cond (ltb bytes (bytesFor octets)) 4 0)))
+refusal k octets bytes = cond (outside k) 7 (cond (ltb 65536 octets) 2 (cond (ltb bytes (bytesFor octets)) 4 0))
 
 -- by the number: what was made, or after a refusal what was there
 abbrev pub afterBy : ℕ → List ℕ → List ℕ → List ℕ

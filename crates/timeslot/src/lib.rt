@@ -4,23 +4,36 @@ ghost use mathlib.Core.List.{List, _++_};
 ghost use Prim.Native.Nat.{ℕ, _+_, _*_, _<_, _≤_};
 ghost use lib.ListN.{length, getD, drop};
 ghost use Rattle.bits.specs.Bit.{octetOf, bitsFrom};
-ghost use Rattle.timeslot.specs.Timeslot.{channelBit, bytesFor, takenOut, putBack, refusal, TakeCall, PutCall};
+ghost use Rattle.timeslot.specs.Timeslot.{channelBit, bytesFor, takenOut, putBack, outside, refusal, TakeCall, PutCall};
 ghost use Rattle.timeslot.specs.Share.{Share, PutTo};
+
+// Whether a channel number lies outside 1 to 8.
+fn outside(channel: u64) -> bool
+    ensures { λ r. ⌜ r ≡ outside channel ⌝ }
+{
+    if channel == 0 { true } else { 8 < channel }
+}
+
+// The bytes that so many bits need.
+fn bytes_for(bits: usize) -> usize
+    ensures { λ r. ⌜ r ≡ bytesFor bits ⌝ }
+{
+    bits / 8 + (bits % 8 + 7) / 8
+}
 
 // The number by which a request is refused, of a channel, so many octets of timeslot and so many bytes for its channel; 0 where it is not.
 fn refusal(channel: u64, octets: usize, bytes: usize) -> u64
     ensures { λ r. ⌜ r ≡ refusal channel octets bytes ⌝ }
 {
-    if channel == 0 {
-        return 7;
-    }
-    if 8 < channel {
+    let wrong = outside(channel);
+    let needed = bytes_for(octets);
+    if wrong {
         return 7;
     }
     if 65536 < octets {
         return 2;
     }
-    if bytes < (octets + 7) / 8 {
+    if bytes < needed {
         return 4;
     }
     0
@@ -43,9 +56,9 @@ fn take_out(timeslot: &[u8], k: usize, buffer: &mut [u8])
     for j in 0..whole {
         buffer[j] = byte_of(timeslot, k, j, 8);
     }
-    let left = timeslot.len() % 8;
-    if left != 0 {
-        buffer[whole] = byte_of(timeslot, k, whole, left);
+    let bits = timeslot.len() % 8;
+    if bits != 0 {
+        buffer[whole] = byte_of(timeslot, k, whole, bits);
     }
 }
 
@@ -67,9 +80,9 @@ fn put_back(timeslot: &mut [u8], k: usize, bytes: &[u8])
     for j in 0..whole {
         put_byte(timeslot, k, j, 8, bytes[j]);
     }
-    let left = timeslot.len() % 8;
-    if left != 0 {
-        put_byte(timeslot, k, whole, left, bytes[whole]);
+    let octets = timeslot.len() % 8;
+    if octets != 0 {
+        put_byte(timeslot, k, whole, octets, bytes[whole]);
     }
 }
 

@@ -9,7 +9,7 @@ use Rattle.lanes.proofs.spread.Statement.{statement}
 use Rattle.lanes.proofs.spread.Tie as tie
 
 returns : tie.Need-returns
-returns c = let v = c .args .v in (and-le-r ((v / 16 + v % 16 * 4294967296) * 134480385 / 8) ones, λ g a h. spread-is v g a (omega arith) h)
+returns c = let v = c .args .v in (λ g a h. spread-is v g a (omega arith) h, and-le-r ((v / 16 + v % 16 * 4294967296) * 134480385 / 8) ones)
 
 pub spread-spec : {M : Type 1} → statement M
 spread-spec = tie.close (tie.spec (λ c. search needs) (λ c. search needs) (λ c. search needs) returns)

@@ -15,14 +15,14 @@ sub-result c = and-le-l (c .args .w) _
 add-result : tie.Need-add-result
 add-result c =
     let a = c .before .args in
-    rw (shift-up ones (a .d) (omega arith) (omega arith), shift-up (c .spread .result) (a .d) (c .spread .ensures .0) (omega arith))
-    (record { fits = put-fits (a .w) (c .spread .result) (a .d) (omega arith) (c .spread .ensures .0) (omega arith) })
+    rw (shift-up ones (a .d) (omega arith) (omega arith), shift-up (c .spread .result) (a .d) (c .spread .ensures .1) (omega arith))
+    (record { fits = put-fits (a .w) (c .spread .result) (a .d) (omega arith) (c .spread .ensures .1) (omega arith) })
 
 returns : tie.Need-returns
 returns c f g b e shows =
     let a = c .before .args in
-    let put = c .spread .ensures .1 g b shows in
-    rw (shift-up ones (a .d) (omega arith) (omega arith), shift-up (c .spread .result) (a .d) (c .spread .ensures .0) (omega arith))
+    let put = c .spread .ensures .0 g b shows in
+    rw (shift-up ones (a .d) (omega arith) (omega arith), shift-up (c .spread .result) (a .d) (c .spread .ensures .1) (omega arith))
     (record { octets = put-octets f (a .d) b (a .w) (omega arith) e g; is = rw put (put-is f (a .d) b (a .w) (omega arith) e g) })
 
 pub with-bits-spec : {M : Type 1} → statement M
