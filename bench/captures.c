@@ -22,9 +22,7 @@ static uint64_t next(void) {
 }
 static unsigned below(unsigned n) { return (unsigned)((next() >> 32) * n >> 32); }
 
-static void put(unsigned p, unsigned value) {
-	bits[p / 8] = (bits[p / 8] & ~(0x80 >> p % 8)) | (value ? 0x80 >> p % 8 : 0);
-}
+static void put(unsigned p, unsigned value) { put_bit(bits, p, value); }
 
 /* A number at places of the frame in hand, the first on top. */
 static void put_number(const uint8_t *places, unsigned count, unsigned value) {

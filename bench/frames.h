@@ -4,6 +4,7 @@
 #define BENCH_FRAMES_H
 
 #include "bellrope.h"
+#include "bits.h"
 
 /* Places of a body, counted from 0. */
 typedef struct {
@@ -37,9 +38,6 @@ const checks *checks_of(unsigned kind, unsigned mode);
 
 /* To be called once, before anything else. */
 void prepare_frames(void);
-
-/* Bit p of bytes. */
-static inline unsigned bit(const uint8_t *bytes, uint64_t p) { return bytes[p / 8] >> (7 - p % 8) & 1; }
 
 /* The bits at places of a body that begins at p, as a number, the first on top. */
 static inline unsigned number_at(const uint8_t *bytes, uint64_t p, const uint8_t *at, unsigned count) {

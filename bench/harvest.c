@@ -12,10 +12,10 @@
  * program does besides is the same in both. */
 #include "frames.h"
 #include "plain.h"
+#include "stack.h"
 #include <stdio.h>
 #include <stdlib.h>
 #include <string.h>
-#include <ucontext.h>
 
 #define PAGE 4096
 #define PAGES 64
@@ -91,27 +91,7 @@ static void same(void) {
 	printf("frames %u\ngaps %u\n", frames, gaps);
 }
 
-/* Stacks of their own for the calls of paging and of writing. They are painted once; where the paint is gone in the end, some call has been. */
-enum { PAGING, WRITING };
-#define PAINT 0xa5
-static uint8_t stacks[2][1 << 18];
-
-static void on_stack(unsigned which, void (*job)(void)) {
-	static ucontext_t here, there;
-	getcontext(&there);
-	there.uc_stack.ss_sp = stacks[which];
-	there.uc_stack.ss_size = sizeof stacks[which];
-	there.uc_link = &here;
-	makecontext(&there, job, 0);
-	swapcontext(&here, &there);
-}
-
-static size_t depth(unsigned which) {
-	size_t untouched = 0;
-	while (stacks[which][untouched] == PAINT) untouched++;
-	return sizeof stacks[which] - untouched;
-}
-
+enum { PAGING, WRITING }; /* the stacks of these calls */
 static bellrope_answer before, answer;
 static uint8_t record[PAGE];
 static void all_pages(void) { harvest(bellrope_page, UINT64_MAX); }
@@ -150,7 +130,7 @@ int main(int argc, char **argv) {
 		return 0;
 	}
 	if (!strcmp(what, "stack")) {
-		memset(stacks, PAINT, sizeof stacks);
+		paint_stacks();
 		for (int i = 2; i < argc; i++) {
 			load(argv[i], BELLROPE_BYTES_MOST);
 			use_stacks();

@@ -1,7 +1,8 @@
 # awk -f bench/report.awk COUNTS: the tables of docs/BENCH.md from what bench/run counted. With -v check=1 instead: what is above its limit, a line each,
-# and a failure if there is any. A line of COUNTS is a name, what of it, and a value; instructions are "NAME READER-BYTES VALUE".
+# and a failure if there is any. A line of COUNTS is a name, what of it, and a value; instructions are "NAME READER-BYTES VALUE". Where the bytes are the
+# octets of a timeslot, there is a line for each channel, and the largest value counts.
 
-# A row: its name, the most instructions a bit, those of the library when it first landed (345e7b7), and its title.
+# A row: its name, the most instructions a bit (of a timeslot: an octet), those of the library when it first landed (345e7b7), and its title.
 function row(name, most, was, words) {
 	names[++rows] = name
 	limit[name] = most
@@ -27,17 +28,23 @@ BEGIN {
 	row("record", 30, "14.68", "HR speech by pages of one record")
 	row("write", 20, "87.88", "HR speech written back")
 	row("write-amr", 25, "101.50", "AMR of mixed modes written back")
+	bitwise = rows # the rows above are counted for each bit, those below for each octet of a timeslot, and once for each of its channels
+	row("take", 3, "", "a channel taken out")
+	row("put", 5, "", "a channel put back")
+	for (i = bitwise + 1; i <= rows; i++) channels[names[i]] = 8
 
-	# Bytes of stack, and by how many per cent the 8, 16 and 32 KiB values may differ from the 64 KiB value.
+	# Bytes of stack, and by how many per cent the values for other sizes of captures and timeslots may differ from the value for 65,536.
 	stack_limit = 16384
 	growth_limit = 5
-	sizes = split("8192 16384 32768", size)
+	capture_sizes = "8192 16384 32768"
+	timeslot_sizes = "8192 65535"
 }
 
-{ of[$1, $2] = $3 }
+{ if (!lines[$1, $2]++ || $3 > of[$1, $2]) of[$1, $2] = $3 }
 
-function a_bit(name, reader, bytes) {
-	return of[name, reader "-" bytes] / (8 * bytes)
+# Instructions for each bit of a capture, or for each octet of a timeslot.
+function each(name, reader, bytes) {
+	return of[name, reader "-" bytes] / (name in channels ? bytes : 8 * bytes)
 }
 
 # How many bytes a row is about: what is written back ends with a frame.
@@ -47,15 +54,24 @@ function bytes_of(name) {
 
 # By how many per cent the value of so many bytes differs from that of 65,536.
 function growth(name, bytes, part) {
-	part = a_bit(name, "library", bytes) / a_bit(name, "library", 65536)
+	part = each(name, "library", bytes) / each(name, "library", 65536)
 	return 100 * (part > 1 ? part - 1 : 1 - part)
 }
 
-function most_growth(i, j, most) {
-	for (i = 1; i <= captures; i++)
-		for (j = 1; j <= sizes; j++)
+function most_growth(from, to, sizes, i, j, n, size, most) {
+	n = split(sizes, size)
+	for (i = from; i <= to; i++)
+		for (j = 1; j <= n; j++)
 			if (growth(names[i], size[j]) > most) most = growth(names[i], size[j])
 	return most
+}
+
+function capture_growth() {
+	return most_growth(1, captures, capture_sizes)
+}
+
+function timeslot_growth() {
+	return most_growth(bitwise + 1, rows, timeslot_sizes)
 }
 
 function above(what, value, most, unit) {
@@ -65,26 +81,37 @@ function above(what, value, most, unit) {
 }
 
 # What was not counted would be 0, and pass.
+function check_counted(what, name, key) {
+	if (lines[name, key] == (name in channels ? channels[name] : 1)) return
+	printf "bench: %s: not counted\n", what
+	failed = 1
+}
+
 function check_row(name) {
-	if (!((name, "library-" bytes_of(name)) in of)) {
-		printf "bench: %s: not counted\n", title[name]
-		failed = 1
-	}
-	above(title[name], a_bit(name, "library", bytes_of(name)), limit[name], "instructions a bit")
+	check_counted(title[name], name, "library-" bytes_of(name))
+	above(title[name], each(name, "library", bytes_of(name)), limit[name], "instructions " (name in channels ? "an octet" : "a bit"))
+}
+
+function check_stack(call) {
+	check_counted("stack of " call, "stack", call)
+	above("stack of " call, of["stack", call], stack_limit, "bytes")
 }
 
 function check_all(i) {
 	for (i = 1; i <= rows; i++) check_row(names[i])
-	above("growth", most_growth(), growth_limit, "% off the 64 KiB value")
-	above("stack of paging", of["stack", "paging"], stack_limit, "bytes")
-	above("stack of writing", of["stack", "writing"], stack_limit, "bytes")
+	above("growth", capture_growth(), growth_limit, "% off the 64 KiB value")
+	above("growth of a timeslot", timeslot_growth(), growth_limit, "% off the value for 65,536 octets")
+	check_stack("paging")
+	check_stack("writing")
+	check_stack("taking")
+	check_stack("putting")
 	exit failed
 }
 
-# Instructions a bit as the tables show them. Those of libosmotrau differ a little from run to run, in the third decimal.
+# Instructions a bit or an octet as the tables show them. Those of libosmotrau differ a little from run to run, in the third decimal.
 function shown(name, reader, bytes) {
 	if (!((name, reader "-" bytes) in of)) return "not had"
-	return sprintf(reader == "osmo" ? "%.1f" : "%.2f", a_bit(name, reader, bytes))
+	return sprintf(reader == "osmo" ? "%.1f" : "%.2f", each(name, reader, bytes))
 }
 
 function capture_row(name, frames) {
@@ -97,7 +124,12 @@ function other_row(name) {
 	printf "| %s | | | %s | %s | %s | | | |\n", title[name], shown(name, "library", bytes_of(name)), first[name], limit[name]
 }
 
-function tables(i, records) {
+function channel_row(name) {
+	printf "| %s | %s | %s | %s | %s | %s |\n", title[name], shown(name, "library", 65536), limit[name], shown(name, "plain", 65536),
+		shown(name, "library", 8192), shown(name, "library", 65535)
+}
+
+function harvests(i, records) {
 	print "# How fast\n"
 	print "Made by `bench/run --write`; not to be edited. The numbers are counted x86-64 instructions for each bit of the capture. Nothing is timed, and"
 	print "the library's numbers are the same on every machine. A capture has 65,536 bytes, downlink, and is harvested whole by pages of 4,096 bytes, the"
@@ -105,7 +137,7 @@ function tables(i, records) {
 	print "| Capture | Frames | Gaps | Bellrope | First landing | Limit | Plain C | libosmotrau | Its frames |"
 	print "|---|---:|---:|---:|---:|---:|---:|---:|---:|"
 	for (i = 1; i <= captures; i++) capture_row(names[i])
-	for (; i <= rows; i++) other_row(names[i])
+	for (; i <= bitwise; i++) other_row(names[i])
 	print ""
 	print "- First landing: the library when it first landed (345e7b7), counted in the same way."
 	print "- Start-up is not in the numbers: they are two harvests less one."
@@ -131,18 +163,47 @@ function tables(i, records) {
 		printf "  Its decoder, called for each, takes %d of the %d in the first row.\n", of["hr", "decoded"], of["hr", "handed"]
 	} else
 		print "- libosmotrau could not be had where this was made."
+}
+
+function growths(i) {
 	print "\n## Growth\n"
 	printf "Bellrope on the first bytes of each capture. A cost linear in the bits shows as equal numbers: the largest difference from the value for 64 KiB\n"
-	printf "is %.2f %%, %s %% being allowed.\n\n", most_growth(), growth_limit
+	printf "is %.2f %%, %s %% being allowed.\n\n", capture_growth(), growth_limit
 	print "| Capture | 8 KiB | 16 KiB | 32 KiB | 64 KiB |"
 	print "|---|---:|---:|---:|---:|"
 	for (i = 1; i <= captures; i++)
 		printf "| %s | %s | %s | %s | %s |\n", title[names[i]], shown(names[i], "library", 8192), shown(names[i], "library", 16384),
 			shown(names[i], "library", 32768), shown(names[i], "library", 65536)
+}
+
+function timeslots(i) {
+	print "\n## A channel of a timeslot\n"
+	print "Here the numbers are counted x86-64 instructions for each octet of a timeslot, which has 65,536 but for the last two columns. Each of the eight"
+	print "channels is counted, and the largest number shown. A cost linear in the octets shows as equal numbers, also where the channel's last byte is"
+	printf "partly filled (65,535 octets): the largest difference from the value for 65,536 is %.2f %%, %s %% being allowed.\n\n", timeslot_growth(),
+		growth_limit
+	print "| Call | Bellrope | Limit | Plain C | 8,192 octets | 65,535 octets |"
+	print "|---|---:|---:|---:|---:|---:|"
+	for (i = bitwise + 1; i <= rows; i++) channel_row(names[i])
+	print ""
+	print "- Start-up is not in the numbers: they are two calls less one."
+	print "- Octets and bytes put back are noise."
+	print "- Plain C is bench/plain_channel.c, compiled as bench/plain.c is. It goes octet by octet, a bit of each. Each run compares what it leaves of"
+	print "  buffer and timeslot with what the library does, for each channel and each number of bits in the last byte: they are the same, byte for byte."
+}
+
+function stacks() {
 	print "\n## Stack\n"
-	printf "Paging took %d bytes of stack and writing %d, %d being allowed. They ran on stacks painted before, with these captures and those of\n",
-		of["stack", "paging"], of["stack", "writing"], stack_limit
-	print "tests/list, and so far down the paint was gone."
+	printf "Paging took %d bytes of stack and writing %d, taking a channel out %d and putting one back %d, %d being allowed. They ran on stacks\n",
+		of["stack", "paging"], of["stack", "writing"], of["stack", "taking"], of["stack", "putting"], stack_limit
+	print "painted before, paging and writing with these captures and those of tests/list, and so far down the paint was gone."
+}
+
+function tables() {
+	harvests()
+	growths()
+	timeslots()
+	stacks()
 }
 
 END {

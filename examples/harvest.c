@@ -1,4 +1,5 @@
-/* harvest [up|down] FILE [PAGE_BYTES] [--profile N] [--follow SECONDS] [--csv]: reads a capture to its end, page by page, and prints what is in it.
+/* harvest [up|down] FILE [PAGE_BYTES] [--timeslot K] [--profile N] [--follow SECONDS] [--csv]: reads a capture to its end, page by page, and prints what
+ * is in it.
  *
  * FILE is a capture file: one byte of direction, 0 for uplink or 1 for downlink, and then the channel's bits, the first bit sent being the top bit of the
  * first byte. Behind the word up or down, FILE holds the bits alone. n is eight times their bytes. PAGE_BYTES is the size of a page, 4096 if none is given.
@@ -11,6 +12,9 @@
  *   slipped             those whose tail is not the usual one of the kind
  *   dropped, added      the bits that these tails are short of the usual, and those they have beyond it, each summed over the frames
  * The capture's last tail ends at n, even if more of it was sent.
+ *
+ * --timeslot K, from 1 to 8, harvests channel K of a 64 kbit/s timeslot: in the place of the channel's bytes FILE holds octets, one for each bit. Bit K of
+ * an octet is the channel's, bit 1 being the top one. n is the number of octets, at most 524,288. All else is as with a FILE of that channel alone.
  *
  * --profile N, from 0 to 255, says which classes of No_Speech carry a CRC: bit k of N, 0 the lowest, for class k. Without it none does.
  *
@@ -35,7 +39,11 @@
 #include <string.h>
 #include <time.h>
 
-enum { KINDS = BELLROPE_AMR_740 + 1, STEPS = 50 /* of waiting, in a second */ };
+enum {
+	KINDS = BELLROPE_AMR_740 + 1,
+	STEPS = 50,                              /* of waiting, in a second */
+	RECORDING_MOST = 8 * BELLROPE_BYTES_MOST /* octets of a recorded timeslot: the bits of the longest capture */
+};
 
 /* The counts of one kind; of gaps, only the items. */
 typedef struct {
@@ -104,17 +112,6 @@ static void print_record(const bellrope_record *record) {
 	printf("\n");
 }
 
-/* Says why a page was refused, and what to do. */
-static void explain(uint64_t number, const char *file, size_t page_bytes) {
-	fprintf(stderr, "harvest: refused with number %" PRIu64 " (%s): ", number, bellrope_number_name(number));
-	if (number == BELLROPE_BAD_REQUEST)
-		fprintf(stderr, "%s does not begin with a byte of direction, 0 (uplink) or 1 (downlink). If it holds bits alone, put up or down before it.\n", file);
-	else if (number == BELLROPE_TOO_LONG) fprintf(stderr, "%s has more than %d bytes of bits. Give a shorter capture.\n", file, BELLROPE_BYTES_MOST);
-	else if (number == BELLROPE_NO_ROOM)
-		fprintf(stderr, "the next record does not fit a page of %zu bytes. Give at least %d.\n", page_bytes, BELLROPE_RECORD_MOST);
-	else fprintf(stderr, "bellrope.h says what that means. It should not happen here.\n");
-}
-
 /* Reads a size in decimal; answers 0 if the word is none. */
 static int read_size(const char *word, size_t *size) {
 	char *end;
@@ -129,6 +126,7 @@ typedef struct {
 	int count;            /* of them */
 	int up, down, csv;
 	size_t page_bytes, profile, seconds;
+	size_t channel; /* which one of a timeslot; 0 where FILE holds the bytes of one channel */
 } request;
 
 /* Takes up or down from the words, and the size of a page. Answers 0 if there is no FILE or a word too many. */
@@ -149,6 +147,7 @@ static int read_words(int argc, char **argv, request *r) {
 	for (int i = 1; i < argc; i++) {
 		const char *next = i + 1 < argc ? argv[i + 1] : "";
 		if (strcmp(argv[i], "--csv") == 0 && !r->csv) r->csv = 1;
+		else if (strcmp(argv[i], "--timeslot") == 0 && !r->channel && read_size(next, &r->channel) && r->channel >= 1 && r->channel <= 8) i++;
 		else if (strcmp(argv[i], "--profile") == 0 && !profiled && read_size(next, &r->profile) && r->profile <= UINT8_MAX) profiled = 1, i++;
 		else if (strcmp(argv[i], "--follow") == 0 && !followed && read_size(next, &r->seconds)) followed = 1, i++;
 		else if (strncmp(argv[i], "--", 2) != 0 && r->count < 3) r->words[r->count++] = argv[i];
@@ -158,16 +157,33 @@ static int read_words(int argc, char **argv, request *r) {
 }
 
 static int usage(void) {
-	fprintf(stderr, "usage: harvest [up|down] FILE [PAGE_BYTES] [--profile N] [--follow SECONDS] [--csv], N from 0 to 255\n");
+	fprintf(stderr, "usage: harvest [up|down] FILE [PAGE_BYTES] [--timeslot K] [--profile N] [--follow SECONDS] [--csv], "
+	                "K from 1 to 8, N from 0 to 255\n");
 	return 2;
+}
+
+/* Says why a page was refused, and what to do. */
+static void explain(uint64_t number, const request *r) {
+	const char *file = r->words[0];
+	fprintf(stderr, "harvest: refused with number %" PRIu64 " (%s): ", number, bellrope_number_name(number));
+	if (number == BELLROPE_BAD_REQUEST)
+		fprintf(stderr, "%s does not begin with a byte of direction, 0 (uplink) or 1 (downlink). If it holds bits alone, put up or down before it.\n", file);
+	else if (number == BELLROPE_TOO_LONG && r->channel)
+		fprintf(stderr, "%s has more than %d octets of a timeslot. Give a shorter recording.\n", file, RECORDING_MOST);
+	else if (number == BELLROPE_TOO_LONG) fprintf(stderr, "%s has more than %d bytes of bits. Give a shorter capture.\n", file, BELLROPE_BYTES_MOST);
+	else if (number == BELLROPE_NO_ROOM)
+		fprintf(stderr, "the next record does not fit a page of %zu bytes. Give at least %d.\n", r->page_bytes, BELLROPE_RECORD_MOST);
+	else fprintf(stderr, "bellrope.h says what that means. It should not happen here.\n");
 }
 
 /* A harvest under way. */
 typedef struct {
 	request r;
 	FILE *file;
-	uint8_t bytes[BELLROPE_BYTES_MOST + 2]; /* of FILE: direction, and one byte more than a capture may have: the library then refuses it */
+	uint8_t bytes[RECORDING_MOST + 2];      /* of FILE: direction, and one more than a capture may have: the library then refuses it */
 	size_t len;                             /* of them, so far */
+	uint8_t taken[BELLROPE_BYTES_MOST + 1]; /* the channel's bytes, taken out of them where they are octets of a timeslot */
+	size_t taken_bits;                      /* of it, so far: one for each octet */
 	uint8_t *page;
 	bellrope_cursor cursor;
 	int headed;      /* whether the heading is printed */
@@ -175,13 +191,31 @@ typedef struct {
 	summary s;
 } harvest;
 
-/* What was read of FILE as a capture. One without a byte of direction gets none that the library takes. */
+/* The bytes of direction before the bits or octets: one, unless the command line has it or nothing was read yet. */
+static size_t front(const harvest *h) { return h->r.up || h->r.down || h->len == 0 ? 0 : 1; }
+
+/* Takes the channel out of the octets that FILE has more by now. A byte of which some bits were missing is taken anew. What the library takes at most is
+ * a multiple of eight octets, so each timeslot begins a byte, and their bytes are joined as they stand. Answers the number of a refusal, or 0. */
+static uint64_t take_out(harvest *h) {
+	const uint8_t *octets = h->bytes + front(h);
+	size_t len = h->len - front(h), some;
+	for (size_t at = h->taken_bits / 8 * 8; at < len; at += some) {
+		some = len - at < BELLROPE_OCTETS_MOST ? len - at : BELLROPE_OCTETS_MOST;
+		uint64_t number = bellrope_take_channel(octets + at, some, h->r.channel, h->taken + at / 8, sizeof h->taken - at / 8);
+		if (number != BELLROPE_TAKEN) return number;
+	}
+	h->taken_bits = len;
+	return BELLROPE_TAKEN;
+}
+
+/* What was read of FILE as a capture, or what was taken out of it. One without a byte of direction gets none that the library takes. */
 static bellrope_capture capture_of(const harvest *h) {
-	size_t at = h->r.up || h->r.down || h->len == 0 ? 0 : 1;
+	const uint8_t *bytes = h->r.channel ? h->taken : h->bytes + front(h);
+	uint64_t n = h->r.channel ? h->taken_bits : 8 * (uint64_t)(h->len - front(h));
 	uint64_t direction = h->len == 0 ? UINT64_MAX : h->bytes[0];
 	if (h->r.up) direction = BELLROPE_UPLINK;
 	if (h->r.down) direction = BELLROPE_DOWNLINK;
-	bellrope_capture capture = bellrope_capture_of(h->bytes + at, h->len - at, 8 * (uint64_t)(h->len - at), direction);
+	bellrope_capture capture = bellrope_capture_of(bytes, (size_t)(n + 7) / 8, n, direction);
 	capture.profile = (uint8_t)h->r.profile;
 	return capture;
 }
@@ -205,11 +239,11 @@ static uint64_t take(harvest *h, bellrope_capture capture, int all) {
 
 /* One look at what was read: takes what is settled, or all, and hands out what is to be printed. Answers the exit status that this gives. */
 static int look(harvest *h, int all) {
+	uint64_t number = h->r.channel ? take_out(h) : BELLROPE_TAKEN;
 	bellrope_capture capture = capture_of(h);
-	uint64_t number = BELLROPE_TAKEN;
 	int directed = h->r.up || h->r.down || h->len != 0; /* else the byte of direction may still come */
 	sigprocmask(SIG_BLOCK, &h->enders, NULL);           /* or one would cut the output short where that waits for its reader */
-	if (directed || all) number = take(h, capture, all);
+	if (number == BELLROPE_TAKEN && (directed || all)) number = take(h, capture, all);
 	if (number == BELLROPE_TAKEN && all && !h->r.csv) print_summary(&h->s, capture);
 	int unwritten = fflush(stdout) || ferror(stdout);
 	sigprocmask(SIG_UNBLOCK, &h->enders, NULL);
@@ -217,13 +251,14 @@ static int look(harvest *h, int all) {
 		fprintf(stderr, "harvest: the output cannot be written: %s\n", strerror(errno));
 		return 2;
 	}
-	if (number != BELLROPE_TAKEN) explain(number, h->r.words[0], h->r.page_bytes);
+	if (number != BELLROPE_TAKEN) explain(number, &h->r);
 	return number == BELLROPE_TAKEN ? 0 : 1;
 }
 
 /* Reads what FILE has more by now. Answers 0 if it cannot be read. A signal that cuts this short is no failure: the last look reads on. */
 static int read_more(harvest *h) {
-	h->len += fread(h->bytes + h->len, 1, sizeof h->bytes - h->len, h->file);
+	size_t most = (h->r.channel ? RECORDING_MOST : BELLROPE_BYTES_MOST) + 2;
+	h->len += fread(h->bytes + h->len, 1, most - h->len, h->file);
 	int bad = ferror(h->file) && errno != EINTR;
 	clearerr(h->file); /* the end of FILE is not its end for good */
 	return !bad;

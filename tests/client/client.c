@@ -3,8 +3,10 @@
  *
  * A request is eleven 64-bit numbers (call, placement, guard, input length, n, direction, profile, position, context, most, buffer length), then the
  * input and the buffer as it is before the call. Call 1 is paging, and its input the capture. Call 2 is writing, and its input the records; it takes
- * neither n nor most, which are 0. Other numbers are free for later calls. Placement: bit 0 set puts the input at the end of its pages, bit 1 the buffer;
- * clear, at their start. A reply is the six numbers of the answer, a number of flags, and the buffer. */
+ * neither n nor most, which are 0. Call 3 takes a channel out, and its input is the timeslot; call 4 puts one back, its input is the channel's bytes and
+ * its buffer the timeslot. The number of their channel stands in the place of n, and the five numbers up to most are 0. Other numbers are free for
+ * later calls. Placement: bit 0 set puts the input at the end of its pages, bit 1 the buffer; clear, at their start. A reply is the six numbers of the
+ * answer (of calls 3 and 4 the first, and zeros), a number of flags, and the buffer. */
 #define _GNU_SOURCE
 #include "bellrope.h"
 
@@ -15,7 +17,7 @@
 #include <sys/mman.h>
 #include <unistd.h>
 
-enum { CALL_PAGE = 1, CALL_WRITE = 2 };
+enum { CALL_PAGE = 1, CALL_WRITE = 2, CALL_TAKE = 3, CALL_PUT = 4 };
 enum { INPUT_CHANGED = 1, INPUT_GUARD_CHANGED = 2, BUFFER_GUARD_CHANGED = 4 };
 
 #define LARGEST ((size_t)4 << 20)
@@ -83,7 +85,13 @@ static void give(const void *from, size_t len) {
 /* The request is known: the call, what it takes, and lengths that there is room for. */
 static int known(const uint64_t r[11]) {
 	if (r[3] > LARGEST || r[6] > UINT8_MAX || r[10] > LARGEST) return 0;
-	return r[0] == CALL_PAGE || (r[0] == CALL_WRITE && r[4] == 0 && r[9] == 0);
+	switch (r[0]) {
+	case CALL_PAGE: return 1;
+	case CALL_WRITE: return r[4] == 0 && r[9] == 0;
+	case CALL_TAKE:
+	case CALL_PUT: return r[5] == 0 && r[6] == 0 && r[7] == 0 && r[8] == 0 && r[9] == 0;
+	default: return 0;
+	}
 }
 
 /* The calls as they are made here: only the low byte of a profile's register is the profile, and the rest holds ones, as a caller may leave it. */
@@ -91,11 +99,15 @@ typedef bellrope_answer paging(const uint8_t *, size_t, uint64_t, uint64_t, uint
 typedef bellrope_answer writing(const uint8_t *, size_t, uint64_t, uint64_t, uint64_t, uint64_t, uint8_t *, size_t);
 
 static bellrope_answer call(const uint64_t r[11], const arena *in, const arena *b) {
-	uint64_t n = r[4], direction = r[5], profile = r[6] | ~(uint64_t)UINT8_MAX, position = r[7], context = r[8], most = r[9];
+	uint64_t n = r[4], channel = r[4], direction = r[5], profile = r[6] | ~(uint64_t)UINT8_MAX, position = r[7], context = r[8], most = r[9];
 	paging *page = (paging *)(void (*)(void))bellrope_page;
 	writing *write = (writing *)(void (*)(void))bellrope_write;
-	if (r[0] == CALL_PAGE) return page(in->lent, in->len, n, direction, profile, position, context, most, b->lent, b->len);
-	return write(in->lent, in->len, direction, profile, position, context, b->lent, b->len);
+	switch (r[0]) {
+	case CALL_PAGE: return page(in->lent, in->len, n, direction, profile, position, context, most, b->lent, b->len);
+	case CALL_WRITE: return write(in->lent, in->len, direction, profile, position, context, b->lent, b->len);
+	case CALL_TAKE: return (bellrope_answer){.number = bellrope_take_channel(in->lent, in->len, channel, b->lent, b->len)};
+	default: return (bellrope_answer){.number = bellrope_put_channel(b->lent, b->len, channel, in->lent, in->len)};
+	}
 }
 
 int main(void) {

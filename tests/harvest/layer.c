@@ -1,6 +1,6 @@
 /* The inline part of bellrope.h, held against the specification: its table of kinds is typed here anew, its examples P8, P9 and P12 are harvested, also
- * while they grow, and P8 is written back. It is C99 and C++ at once. VERSION is the one that pkg-config gives. The linker hands the library's calls to
- * the forms below (--wrap), which see that they get valid pointers even where the length is 0. */
+ * while they grow and out of a timeslot, and P8 is written back. It is C99 and C++ at once. VERSION is the one that pkg-config gives. The linker hands
+ * paging and writing to the forms below (--wrap), which see that they get valid pointers even where the length is 0. */
 #include "hold.h"
 
 #include <string.h>
@@ -68,9 +68,10 @@ static void kinds(void) {
 }
 
 static void numbers(void) {
-	static const char *const names[] = {"taken", "bad request", "too long", "bad cursor", "no room", "unsound record", "record not due"};
-	for (unsigned number = 0; number <= 6; number++) HOLD(strcmp(bellrope_number_name(number), names[number]) == 0);
-	HOLD(strcmp(bellrope_number_name(7), "unknown number") == 0 && strcmp(bellrope_number_name(UINT64_MAX), "unknown number") == 0);
+	static const char *const names[] = {"taken", "bad request", "too long", "bad cursor", "no room", "unsound record", "record not due",
+	                                    "no such channel"};
+	for (unsigned number = 0; number <= 7; number++) HOLD(strcmp(bellrope_number_name(number), names[number]) == 0);
+	HOLD(strcmp(bellrope_number_name(8), "unknown number") == 0 && strcmp(bellrope_number_name(UINT64_MAX), "unknown number") == 0);
 	HOLD(strcmp(BELLROPE_VERSION, VERSION) == 0);
 }
 
@@ -304,6 +305,21 @@ static void profiles(void) {
 	}
 }
 
+/* P8 put into each channel of a timeslot whose other bits are ones, and P9, which is two octets less, taken out and harvested as the header says. */
+static void channels(void) {
+	for (uint64_t k = 1; k <= 8; k++) {
+		uint8_t octets[168], bytes[BELLROPE_CHANNEL_MOST], page[40];
+		bellrope_cursor cursor = bellrope_begin();
+		memset(octets, 0xff, sizeof octets);
+		memset(bytes, 0xff, sizeof bytes);
+		HOLD(bellrope_put_channel(octets, sizeof octets, k, p8, sizeof p8) == BELLROPE_TAKEN);
+		HOLD(bellrope_take_channel(octets, 166, k, bytes, sizeof bytes) == BELLROPE_TAKEN);
+		HOLD(is(bellrope_next(bellrope_capture_of(bytes, sizeof bytes, 166, BELLROPE_DOWNLINK), &cursor, 9, page, 40), BELLROPE_TAKEN, 0, 2, 35, 166, 1));
+		HOLD(page[0] == BELLROPE_GAP && page[9] == BELLROPE_SPEECH && page[9 + BELLROPE_AT_VERDICT] == 0);
+		HOLD(memcmp(bytes, p8, 20) == 0 && bytes[20] == (p8[20] & 0xfc) && bytes[21] == 0xff);
+	}
+}
+
 int main(void) {
 	kinds();
 	numbers();
@@ -317,5 +333,6 @@ int main(void) {
 	walks();
 	writing();
 	profiles();
+	channels();
 	return failures != 0;
 }

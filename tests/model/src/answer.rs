@@ -11,6 +11,11 @@ pub struct Answer {
 }
 
 impl Answer {
+    /// The answer of a call that gives a number alone: the others are 0.
+    pub fn alone(number: u64) -> Answer {
+        Answer::refusal(number, 0, 0, 0)
+    }
+
     /// A refusal: 0 items, 0 bytes, the cursor as given.
     pub fn refusal(number: u64, index: u64, position: u64, context: u64) -> Answer {
         Answer {

@@ -1,7 +1,7 @@
 //! The client process at the other end of two pipes, which calls the library.
 
 use model::answer::Answer;
-use model::{page, write};
+use model::{page, timeslot, write};
 use std::io::{Error, Read, Write};
 use std::process::{Child, ChildStdin, ChildStdout, Command, Stdio};
 
@@ -11,8 +11,8 @@ pub struct Client {
     from: ChildStdout,
 }
 
-/// What the client gives back. Flags: 1 the capture or the records changed, 2 a guard byte around
-/// them, 4 a guard byte around the buffer.
+/// What the client gives back. Flags: 1 the input changed, which is only read, 2 a guard byte around
+/// it, 4 a guard byte around the buffer.
 #[derive(Clone, Debug, PartialEq)]
 pub struct Reply {
     pub answer: Answer,
@@ -23,6 +23,8 @@ pub struct Reply {
 /// The numbers of the calls in the client's protocol.
 const CALL_PAGE: u64 = 1;
 const CALL_WRITE: u64 = 2;
+const CALL_TAKE: u64 = 3;
+const CALL_PUT: u64 = 4;
 
 impl Client {
     pub fn start(command: &[String]) -> Result<Client, Error> {
@@ -54,6 +56,18 @@ impl Client {
         let profile = u64::from(r.profile);
         let numbers = [0, r.direction, profile, r.position, r.context, 0];
         self.call([CALL_WRITE, place, guard], &r.records, numbers, &r.buffer)
+    }
+
+    /// Takes a channel out: the buffer is for its bytes.
+    pub fn take(&mut self, r: &timeslot::Request, place: u64, guard: u64) -> Result<Reply, String> {
+        let numbers = [r.channel, 0, 0, 0, 0, 0];
+        self.call([CALL_TAKE, place, guard], &r.timeslot, numbers, &r.bytes)
+    }
+
+    /// Puts a channel back: the buffer is the timeslot.
+    pub fn put(&mut self, r: &timeslot::Request, place: u64, guard: u64) -> Result<Reply, String> {
+        let numbers = [r.channel, 0, 0, 0, 0, 0];
+        self.call([CALL_PUT, place, guard], &r.bytes, numbers, &r.timeslot)
     }
 
     fn call(

@@ -19,13 +19,17 @@ pub struct Comparison {
     pub client: Client,
     pub paging: Counts,
     pub writing: Counts,
+    pub taking: Counts,
+    pub putting: Counts,
     pub calls: u64,
     /// Whether the model is held against itself too.
     pub own_checks: bool,
 }
 
-/// In how many cases there is one sweep. The default run makes each sweep once at least.
-const SWEEP_EACH: u64 = 13;
+/// In how many cases there is one sweep of records, and one of timeslots. The default run makes each
+/// sweep once at least.
+const SWEEP_EACH: u64 = 11;
+const TIMESLOT_SWEEP_EACH: u64 = 2 * SWEEP_EACH;
 
 impl Comparison {
     pub fn new(client: Client, own_checks: bool) -> Comparison {
@@ -33,12 +37,15 @@ impl Comparison {
             client,
             paging: Counts::default(),
             writing: Counts::default(),
+            taking: Counts::default(),
+            putting: Counts::default(),
             calls: 0,
             own_checks,
         }
     }
 
-    /// One case: a capture, requests of paging for it, and requests of writing.
+    /// One case: a capture, requests of paging for it, requests of writing, and requests for
+    /// channels of timeslots.
     pub fn case(&mut self, seed: u64, case: u64) -> Result<(), Stop> {
         let mut rng = Rng::new(seed, case);
         let made = families::make(&mut rng);
@@ -47,10 +54,14 @@ impl Comparison {
         self.page_case(&mut rng, &lent)?;
         self.write_case(&mut rng, &lent)?;
         self.silence_case(&mut rng, case)?;
-        match case % SWEEP_EACH {
-            0 => self.sweep(&mut rng, case / SWEEP_EACH),
-            _ => Ok(()),
+        if let (turn, 0) = (case / SWEEP_EACH, case % SWEEP_EACH) {
+            self.sweep(&mut rng, turn)?;
         }
+        self.timeslot_case(&mut rng, &lent)?;
+        if let (turn, 0) = (case / TIMESLOT_SWEEP_EACH, case % TIMESLOT_SWEEP_EACH) {
+            self.timeslot_sweep(&mut rng, turn)?;
+        }
+        Ok(())
     }
 }
 

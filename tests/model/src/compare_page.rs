@@ -56,7 +56,7 @@ impl Comparison {
     }
 
     /// Pages of random sizes from bit 0 in context 0, joined and compared with the whole reading.
-    fn harvest(&mut self, rng: &mut Rng, lent: &Lent) -> Result<(), Stop> {
+    pub fn harvest(&mut self, rng: &mut Rng, lent: &Lent) -> Result<(), Stop> {
         let capture = &lent.capture;
         let start = Cursor {
             position: 0,

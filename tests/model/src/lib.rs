@@ -1,5 +1,5 @@
-//! The model: what the specification says of frames, readings, records, pages and writing, by
-//! brute force.
+//! The model: what the specification says of frames, readings, records, pages, writing and
+//! timeslots, by brute force.
 //! It is written from the specification alone and shares nothing with the library.
 
 pub mod answer;
@@ -26,4 +26,6 @@ pub mod silence;
 pub mod spoil;
 pub mod stretches;
 pub mod sweeps;
+pub mod timeslot;
+pub mod timeslots;
 pub mod write;

@@ -10,9 +10,11 @@ mod client;
 mod compare;
 mod compare_growth;
 mod compare_page;
+mod compare_timeslot;
 mod compare_write;
 mod coverage;
 mod coverage_page;
+mod coverage_timeslot;
 mod coverage_write;
 
 use client::Client;
@@ -132,10 +134,16 @@ fn compare(options: &Options, client: Client) -> ExitCode {
             return ExitCode::SUCCESS;
         }
     }
-    let (paging, never_paging) = coverage_page::line(&comparison.paging);
-    let (writing, never_writing) = coverage_write::line(&comparison.writing);
-    println!("{paging}\n{writing}");
-    let never = [never_paging, never_writing].concat();
+    let mut never = Vec::new();
+    for (line, never_in_it) in [
+        coverage_page::line(&comparison.paging),
+        coverage_write::line(&comparison.writing),
+        coverage_timeslot::line_of_taking(&comparison.taking),
+        coverage_timeslot::line_of_putting(&comparison.putting),
+    ] {
+        println!("{line}");
+        never.extend(never_in_it);
+    }
     let calls = comparison.calls;
     let seconds = begin.elapsed().as_secs();
     println!(

@@ -179,7 +179,7 @@ pub fn twin(rng: &mut Rng, request: &Request) -> Request {
 }
 
 /// Fills the bits from n on with garbage.
-fn garbage(rng: &mut Rng, bytes: &mut [u8], n: usize) {
+pub fn garbage(rng: &mut Rng, bytes: &mut [u8], n: usize) {
     let whole = rng.of(&[0x00, 0xFF, 0x80]);
     let random = rng.bit();
     for i in n..8 * bytes.len() {
