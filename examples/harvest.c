@@ -167,7 +167,7 @@ static void explain(uint64_t number, const request *r) {
 	const char *file = r->words[0];
 	fprintf(stderr, "harvest: refused with number %" PRIu64 " (%s): ", number, bellrope_number_name(number));
 	if (number == BELLROPE_BAD_REQUEST)
-		fprintf(stderr, "%s does not begin with a byte of direction, 0 (uplink) or 1 (downlink). If it holds bits alone, put up or down before it.\n", file);
+		fprintf(stderr, "%s does not begin with a byte of direction, 0 (uplink) or 1 (downlink). If it has none, put up or down before it.\n", file);
 	else if (number == BELLROPE_TOO_LONG && r->channel)
 		fprintf(stderr, "%s has more than %d octets of a timeslot. Give a shorter recording.\n", file, RECORDING_MOST);
 	else if (number == BELLROPE_TOO_LONG) fprintf(stderr, "%s has more than %d bytes of bits. Give a shorter capture.\n", file, BELLROPE_BYTES_MOST);

@@ -5,7 +5,7 @@ use mathlib.Core.Path.{_≡_, refl, ap, sym, subst, _∙_}
 use mathlib.Core.List.{List, _++_}
 use Prim.Native.Nat.{ℕ, zero, suc, _*_, _/_, _<_, _≤_}
 use native.Mathlib.Omega.{arith}
-use lib.ListN.{length, getD, drop, length-append, length-drop, List·getD-append}
+use lib.ListN.{length, drop, length-append, length-drop, List·getD-append}
 use Rattle.reading.specs.Reading.{Cursor, Item, Reading}
 use Rattle.bits.specs.Bit.{bitAt}
 use Rattle.channel.specs.declared.Terms.{Terms}

@@ -2,14 +2,13 @@
 -- Assumes nothing.
 use mathlib.Core.Path.{_≡_, refl, ap, sym, _∙_}
 use mathlib.Core.Logic.{_⊎_, inl, inr, by-cases}
-use mathlib.Core.Bool.{Bool, _&&_}
 use mathlib.Core.List.{List, map, append-nil}
-use Prim.Native.Nat.{ℕ, zero, suc, _+_, _*_, _-_, _/_, _%_, _^_, _<_, _≤_}
+use Prim.Native.Nat.{ℕ, _+_, _*_, _-_, _/_, _%_, _^_, _<_, _≤_}
 use native.Mathlib.Nat.{zero-add, zero-div}
 use native.Mathlib.Decide.{decLt}
 use native.Mathlib.Omega.{arith}
 use borrow.Author.Tests.{lt-ltb, le-ltb}
-use lib.Dec.{eqb, ltb}
+use lib.Dec.{eqb}
 use lib.ListN.{length, getD, List·getD-eq-default}
 use lib.Seq.{drop-length}
 use Rattle.bits.specs.Bit.{bitAt, toN, number, count, octetOf, bitsFrom}
@@ -17,7 +16,7 @@ use Rattle.bits.proofs.BitLaws.{byte-bit}
 use Rattle.bits.proofs.CountLaws.{map-count-same}
 use Rattle.bits.specs.Put.{putIn}
 use Rattle.put.specs.Put.{Shows}
-use Rattle.lanes.specs.Lanes.{lanes, Eight, bitOf, FilledTo}
+use Rattle.lanes.specs.Lanes.{lanes, Eight, bitOf}
 use Rattle.lanes.proofs.LaneLaws.{eight-same, lanes-short, filled-rest}
 use Rattle.timeslot.specs.Timeslot.{channelBit, octetWith, putBack}
 use Rattle.timeslot.specs.Share.{Share, PutTo}

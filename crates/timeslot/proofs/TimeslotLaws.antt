@@ -4,7 +4,7 @@ use mathlib.Core.Path.{_≡_, ap, sym, _∙_}
 use mathlib.Core.Logic.{by-cases}
 use mathlib.Core.Bool.{Bool}
 use mathlib.Core.List.{List, map}
-use Prim.Native.Nat.{ℕ, _+_, _*_, _-_, _/_, _%_, _<_, _≤_}
+use Prim.Native.Nat.{ℕ, _+_, _-_, _<_, _≤_}
 use native.Mathlib.Nat.{zero-add}
 use native.Mathlib.Decide.{decLt}
 use native.Mathlib.Omega.{arith}
@@ -17,7 +17,6 @@ use Rattle.bits.proofs.BitLaws.{toN-lt, toN-one, unseen, octets-bit}
 use Rattle.bits.proofs.CountLaws.{length-map-count, getD-map-count, map-count-same}
 use Rattle.bits.specs.Put.{putIn}
 use Rattle.put.proofs.PutLaws.{put-same, put-apart}
-use Rattle.lanes.specs.Lanes.{bitOf}
 use Rattle.lanes.proofs.GatherLaws.{put-own, put-swap}
 use Rattle.timeslot.specs.Timeslot.{channelBit, bytesFor, takenOut, octetWith, putBack}
 use Rattle.timeslot.proofs.ByteLaws.{channel-bit}

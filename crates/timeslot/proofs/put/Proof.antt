@@ -1,7 +1,6 @@
 -- `timeslot::put` meets its contract: refused, or put back.
 -- Assumes nothing.
 use mathlib.Core.Path.{sym, _∙_}
-use native.Mathlib.Omega.{arith}
 use borrow.Author.Needs.{needs}
 use lib.ListN.{length}
 use Rattle.timeslot.proofs.CallLaws.{admitted, refused-after}

@@ -1,7 +1,6 @@
 -- `timeslot::take` meets its contract: refused, or taken out.
 -- Assumes nothing.
 use mathlib.Core.Path.{sym, _∙_}
-use native.Mathlib.Omega.{arith}
 use borrow.Author.Needs.{needs}
 use lib.ListN.{length}
 use Rattle.timeslot.proofs.CallLaws.{admitted, refused-after}
