@@ -1,5 +1,5 @@
--- The calls: no second answer fits a request; what was taken out goes back, and what was put back comes out; the other seven channels are kept, and two
--- different channels go back in either order; a channel taken out reads as it stands in the timeslot.
+-- The two calls: what was taken out goes back, and what was put back comes out; the other seven channels are kept, and two different channels go back in
+-- either order; a channel taken out reads as it stands in the timeslot.
 -- Assumes nothing.
 use mathlib.Core.Path.{_≡_, refl, ap, sym, subst, _∙_}
 use mathlib.Core.List.{List, _++_}
@@ -17,23 +17,11 @@ use Rattle.timeslot.specs.Timeslot.{channelBit, bytesFor, takenOut, putB
 use Rattle.timeslot.proofs.CallLaws.{admitted, enough-same}
 use Rattle.timeslot.proofs.TimeslotLaws.{length-taken, taken-bit, taken-same, length-put, put-bit, put-other, put-unseen, put-taken, put-either}
 
--- no second number and no second buffer fit a request to take out
-pub take-one : (t : List ℕ) (k : ℕ) (buffer : List ℕ) (m n : ℕ) (x y : List ℕ) → TakeCall t k buffer m x → TakeCall t k buffer n y → (m ≡ n) × (x ≡ y)
-take-one t k buffer m n x y p q =
-    let same : m ≡ n = p .answer ∙ sym (q .answer) in
-    (same, p .buffer-is ∙ ap (λ (number : ℕ). afterBy number (takenOut t k ++ drop (bytesFor (length t)) buffer) buffer) same ∙ sym (q .buffer-is))
-
--- nor one to put back
-pub put-one : (t : List ℕ) (k : ℕ) (bytes : List ℕ) (m n : ℕ) (x y : List ℕ) → PutCall t k bytes m x → PutCall t k bytes n y → (m ≡ n) × (x ≡ y)
-put-one t k bytes m n x y p q =
-    let same : m ≡ n = p .answer ∙ sym (q .answer) in
-    (same, p .timeslot-is ∙ ap (λ (number : ℕ). afterBy number (putBack t k bytes) t) same ∙ sym (q .timeslot-is))
-
 -- what is taken out: the channel's bits, in a buffer of its length, which they fit
 module _ (t : List ℕ) (k : ℕ) (buffer after : List ℕ) (p : TakeCall t k buffer 0 after) where
   pub taken-length : length after ≡ length buffer
   taken-length =
-      ap length (p .buffer-is)
+      ap length (p .left)
       ∙ length-append (takenOut t k) (drop (bytesFor (length t)) buffer)
       ∙ omega (arith, length-taken t k, length-drop (bytesFor (length t)) buffer, admitted k (length t) (length buffer) (sym (p .answer)) .room)
 
@@ -43,7 +31,7 @@ module _ (t : List ℕ) (k : ℕ) (buffer after : List ℕ) (p : TakeCall t k bu
   pub taken-bits : (i : ℕ) → i < length t → bitAt after i ≡ channelBit t k i
   taken-bits i l =
       let inside : i / 8 < length (takenOut t k) = omega (arith, length-taken t k) in
-      rw (p .buffer-is, List·getD-append (takenOut t k) (drop (bytesFor (length t)) buffer) 0 (i / 8) inside) (taken-bit t k i l)
+      rw (p .left, List·getD-append (takenOut t k) (drop (bytesFor (length t)) buffer) 0 (i / 8) inside) (taken-bit t k i l)
 
   -- as a capture with n the number of octets it reads as the channel in the timeslot
   pub reads : (terms : Terms) (c : Cursor Context) (xs : List (Item Frame)) → Reading rules (captureOf after (length t) terms) c xs → Reading rules (channelOf t k terms) c xs
@@ -57,33 +45,33 @@ module _ (t : List ℕ) (k : ℕ) (buffer after : List ℕ) (p : TakeCall t k bu
   taken-back number u q =
       let fit = admitted k (length t) (length buffer) (sym (p .answer)) in
       let none : number ≡ 0 = q .answer ∙ ap (refusal k (length t)) taken-length ∙ sym (p .answer) in
-      (none, q .timeslot-is ∙ ap (λ (n : ℕ). afterBy n (putBack t k after) t) none ∙ put-taken t k after (fit .from) (fit .to) taken-bits)
+      (none, q .left ∙ ap (λ (n : ℕ). afterBy n (putBack t k after) t) none ∙ put-taken t k after (fit .from) (fit .to) taken-bits)
 
 -- bytes that have the same bits of the channel are put back alike: what they have behind these is not looked at
 pub bytes-unseen : (t : List ℕ) (k : ℕ) (a b : List ℕ) (m n : ℕ) (x y : List ℕ) → bytesFor (length t) ≤ length a → bytesFor (length t) ≤ length b → Agree (length t) (bitAt a) (bitAt b)
     → PutCall t k a m x → PutCall t k b n y → (m ≡ n) × (x ≡ y)
 bytes-unseen t k a b m n x y la lb same p q =
     let number : m ≡ n = p .answer ∙ enough-same k (length t) (length a) (length b) la lb ∙ sym (q .answer) in
-    (number, p .timeslot-is ∙ ap (λ (u : List ℕ). afterBy m u t) (put-unseen t k a b same) ∙ ap (λ (number : ℕ). afterBy number (putBack t k b) t) number ∙ sym (q .timeslot-is))
+    (number, p .left ∙ ap (λ (u : List ℕ). afterBy m u t) (put-unseen t k a b same) ∙ ap (λ (number : ℕ). afterBy number (putBack t k b) t) number ∙ sym (q .left))
 
 -- putting back keeps the number of octets, refused or not
 pub put-length : (t : List ℕ) (k : ℕ) (bytes : List ℕ) (number : ℕ) (u : List ℕ) → PutCall t k bytes number u → length u ≡ length t
-put-length t k bytes zero u q = ap length (q .timeslot-is) ∙ length-put t k bytes
-put-length t k bytes (suc number) u q = ap length (q .timeslot-is)
+put-length t k bytes zero u q = ap length (q .left) ∙ length-put t k bytes
+put-length t k bytes (suc number) u q = ap length (q .left)
 
 -- take out what was put back, and the channel's bits are those put
 pub put-out : (t : List ℕ) (k : ℕ) (bytes u buffer after : List ℕ) → PutCall t k bytes 0 u → TakeCall u k buffer 0 after → (i : ℕ) → i < length t → bitAt after i ≡ bitAt bytes i
 put-out t k bytes u buffer after q p i l =
     let fit = admitted k (length t) (length bytes) (sym (q .answer)) in
-    taken-bits u k buffer after p i (omega (arith, put-length t k bytes 0 u q)) ∙ rw (q .timeslot-is) (put-bit t k bytes i (fit .from) (fit .to) l)
+    taken-bits u k buffer after p i (omega (arith, put-length t k bytes 0 u q)) ∙ rw (q .left) (put-bit t k bytes i (fit .from) (fit .to) l)
 
 -- the other seven channels are kept bit for bit
 pub others-kept : (t : List ℕ) (k : ℕ) (bytes : List ℕ) (number : ℕ) (u : List ℕ) → PutCall t k bytes number u → (j i : ℕ) → 0 < j → j ≤ 8 → (j ≡ k → ⊥)
     → channelBit u j i ≡ channelBit t j i
 others-kept t k bytes zero u q j i a b ne =
     let fit = admitted k (length t) (length bytes) (sym (q .answer)) in
-    rw (q .timeslot-is) (put-other t k bytes j i (fit .from) (fit .to) a b ne)
-others-kept t k bytes (suc number) u q j i a b ne = rw (q .timeslot-is)
+    rw (q .left) (put-other t k bytes j i (fit .from) (fit .to) a b ne)
+others-kept t k bytes (suc number) u q j i a b ne = rw (q .left)
 
 -- so of any other channel the same is taken out, whether or not this one was put
 pub others-same : (t : List ℕ) (j : ℕ) (bytes : List ℕ) (m : ℕ) (u : List ℕ) → PutCall t j bytes m u → (k : ℕ) → (k ≡ j → ⊥) → (buffer : List ℕ) (n p : ℕ) (x y : List ℕ)
@@ -91,7 +79,7 @@ pub others-same : (t : List ℕ) (j : ℕ) (bytes : List ℕ) (m : ℕ) (u : Lis
 others-same t j bytes m u q k ne buffer n p x y a b =
     let long = put-length t j bytes m u q in
     let same : n ≡ p = a .answer ∙ ap (λ (l : ℕ). refusal k l (length buffer)) (sym long) ∙ sym (b .answer) in
-    (same, a .buffer-is ∙ go n (a .answer) ∙ ap (λ (number : ℕ). afterBy number (takenOut u k ++ drop (bytesFor (length u)) buffer) buffer) same ∙ sym (b .buffer-is))
+    (same, a .left ∙ go n (a .answer) ∙ ap (λ (number : ℕ). afterBy number (takenOut u k ++ drop (bytesFor (length u)) buffer) buffer) same ∙ sym (b .left))
   where
     go : (n : ℕ) → n ≡ refusal k (length t) (length buffer)
         → afterBy n (takenOut t k ++ drop (bytesFor (length t)) buffer) buffer ≡ afterBy n (takenOut u k ++ drop (bytesFor (length u)) buffer) buffer
@@ -118,7 +106,7 @@ pub either-order : (t : List ℕ) (j k : ℕ) (a b : List ℕ) → (j ≡ k → 
 either-order t j k a b ne m₁ m₂ n₁ n₂ t₁ t₂ u₁ u₂ p₁ p₂ q₁ q₂ =
     let first : m₁ ≡ n₂ = p₁ .answer ∙ ap (λ (l : ℕ). refusal j l (length a)) (sym (put-length t k b n₁ u₁ q₁)) ∙ sym (q₂ .answer) in
     let second : m₂ ≡ n₁ = p₂ .answer ∙ ap (λ (l : ℕ). refusal k l (length b)) (put-length t j a m₁ t₁ p₁) ∙ sym (q₁ .answer) in
-    (rw (p₂ .timeslot-is, q₂ .timeslot-is, p₁ .timeslot-is, q₁ .timeslot-is, second, sym first) (go m₁ n₁ (p₁ .answer) (q₁ .answer)), first, second)
+    (rw (p₂ .left, q₂ .left, p₁ .left, q₁ .left, second, sym first) (go m₁ n₁ (p₁ .answer) (q₁ .answer)), first, second)
   where
     go : (m n : ℕ) → m ≡ refusal j (length t) (length a) → n ≡ refusal k (length t) (length b)
         → afterBy n (putBack (afterBy m (putBack t j a) t) k b) (afterBy m (putBack t j a) t) ≡ afterBy m (putBack (afterBy n (putBack t k b) t) j a) (afterBy n (putBack t k b) t)

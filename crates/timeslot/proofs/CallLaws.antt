@@ -1,6 +1,6 @@
--- The calls: which requests are refused, and what a refusal leaves.
+-- The calls: which requests are refused, what a refusal leaves, and that no second answer fits.
 -- Assumes nothing.
-use mathlib.Core.Path.{_≡_, refl}
+use mathlib.Core.Path.{_≡_, refl, ap, sym, _∙_}
 use mathlib.Core.Bool.{Bool, true, false, _||_}
 use mathlib.Core.List.{List}
 use Prim.Native.Nat.{ℕ, zero, suc, _<_, _≤_}
@@ -8,7 +8,7 @@ use native.Mathlib.Omega.{arith}
 use borrow.Author.Tests.{le-ltb, ltb-false, eqb-false}
 use lib.Dec.{eqb, ltb}
 use Rattle.call.proofs.NumberLaws.{passed}
-use Rattle.timeslot.specs.Timeslot.{bytesFor, outside, refusal, afterBy}
+use Rattle.timeslot.specs.Timeslot.{bytesFor, outside, refusal, afterBy, ChannelCall}
 use Rattle.channel.proofs.BoolLaws.{never}
 
 -- what the numbers ask of a request
@@ -40,7 +40,17 @@ admitted k octets bytes e =
 pub enough-same : (k octets a b : ℕ) → bytesFor octets ≤ a → bytesFor octets ≤ b → refusal k octets a ≡ refusal k octets b
 enough-same k octets a b x y = rw (le-ltb a (bytesFor octets) x, le-ltb b (bytesFor octets) y)
 
--- a refusal leaves what was there
-pub refused-after : (number : ℕ) (made before : List ℕ) → (number ≡ 0 → ⊥) → before ≡ afterBy number made before
-refused-after zero made before h = absurd (h refl)
-refused-after (suc number) made before h = refl
+module _ (k octets bytes : ℕ) (made before : List ℕ) where
+  -- no second number fits a request, and nothing second is left
+  pub call-one : (m n : ℕ) (x y : List ℕ) → ChannelCall k octets bytes made before m x → ChannelCall k octets bytes made before n y → (m ≡ n) × (x ≡ y)
+  call-one m n x y p q =
+      let same : m ≡ n = p .answer ∙ sym (q .answer) in
+      (same, p .left ∙ ap (λ (number : ℕ). afterBy number made before) same ∙ sym (q .left))
+
+  -- a refusal leaves what was there
+  pub refused-call : (number : ℕ) → number ≡ refusal k octets bytes → (number ≡ 0 → ⊥) → ChannelCall k octets bytes made before number before
+  refused-call number e h = record { answer = e; left = go number h }
+    where
+      go : (number : ℕ) → (number ≡ 0 → ⊥) → before ≡ afterBy number made before
+      go zero h = absurd (h refl)
+      go (suc number) h = refl

@@ -45,16 +45,20 @@ abbrev pub afterBy : ℕ → List ℕ → List ℕ → List ℕ
 afterBy zero made before = made
 afterBy (suc number) made before = before
 
--- taking out, every request: the timeslot, the channel number, the buffer; the number answered, and the buffer after it, in which the channel stands in
--- front and the rest is kept
-pub record TakeCall (timeslot : List ℕ) (k : ℕ) (buffer : List ℕ) (number : ℕ) (after : List ℕ) : Type 0 where
-  pub answer : number ≡ refusal k (length timeslot) (length buffer)
-  pub buffer-is : after ≡ afterBy number (takenOut timeslot k ++ drop (bytesFor (length timeslot)) buffer) buffer
+-- a call on channel k, a timeslot of so many octets and so many bytes: the number answered, and what is lent to be changed as it is after it
+pub record ChannelCall (k octets bytes : ℕ) (made before : List ℕ) (number : ℕ) (after : List ℕ) : Type 0 where
+  pub answer : number ≡ refusal k octets bytes
+  pub left : after ≡ afterBy number made before
 
--- putting back, every request: the timeslot, the channel number, the bytes; the number answered, and the timeslot after it
-pub record PutCall (timeslot : List ℕ) (k : ℕ) (bytes : List ℕ) (number : ℕ) (after : List ℕ) : Type 0 where
-  pub answer : number ≡ refusal k (length timeslot) (length bytes)
-  pub timeslot-is : after ≡ afterBy number (putBack timeslot k bytes) timeslot
+-- taking out, every request: the timeslot, the channel number, the buffer; the number, and the buffer after it, in which the channel stands in front and
+-- the rest is kept
+abbrev pub TakeCall : List ℕ → ℕ → List ℕ → ℕ → List ℕ → Type 0
+TakeCall timeslot k buffer number after =
+    ChannelCall k (length timeslot) (length buffer) (takenOut timeslot k ++ drop (bytesFor (length timeslot)) buffer) buffer number after
+
+-- putting back, every request: the timeslot, the channel number, the bytes; the number, and the timeslot after it
+abbrev pub PutCall : List ℕ → ℕ → List ℕ → ℕ → List ℕ → Type 0
+PutCall timeslot k bytes number after = ChannelCall k (length timeslot) (length bytes) (putBack timeslot k bytes) timeslot number after
 
 -- channel k of a timeslot as a capture: n is the number of octets
 abbrev pub channelOf : List ℕ → ℕ → Terms → Capture

@@ -2,22 +2,20 @@
 -- Assumes nothing.
 use mathlib.Core.Path.{sym, _∙_}
 use borrow.Author.Needs.{needs}
-use lib.ListN.{length}
-use Rattle.timeslot.proofs.CallLaws.{admitted, refused-after}
+use Rattle.timeslot.proofs.CallLaws.{admitted, refused-call}
 use Rattle.timeslot.proofs.put.Statement.{statement}
 use Rattle.timeslot.proofs.put.Tie as tie
 
 returns : tie.Need-returns
-returns c = record { answer = c .before .refusal .ensures; timeslot-is = refused-after (c .before .refusal .result) _ (c .before .before .before .before .args .timeslot .now) (c .if1 .taken) }
+returns c = refused-call _ _ _ _ _ (c .before .refusal .result) (c .before .refusal .ensures) (c .if1 .taken)
 
 put-back-requires : tie.Need-put-back-requires
 put-back-requires c κs =
-    let a = c .before .before .before .before .before .args in
-    let fit = admitted (a .channel) (length (a .timeslot .now)) (length (a .bytes .now)) (sym (c .before .before .refusal .ensures) ∙ c .before .if1 .left) in
+    let fit = admitted _ _ _ (sym (c .before .before .refusal .ensures) ∙ c .before .if1 .left) in
     (fit .from, fit .to, fit .short, fit .room)
 
 returns-2 : tie.Need-returns-2
-returns-2 c = record { answer = sym (c .before .before .before .before .if1 .left) ∙ c .before .before .before .before .before .refusal .ensures; timeslot-is = c .before .before .put-back .ensures }
+returns-2 c = record { answer = sym (c .before .before .before .before .if1 .left) ∙ c .before .before .before .before .before .refusal .ensures; left = c .before .before .put-back .ensures }
 
 pub put-spec : {M : Type 1} → statement M
 put-spec = tie.close (tie.spec (λ c κs. search needs) returns put-back-requires (λ c. search needs) returns-2)
