@@ -10,9 +10,12 @@ ghost use Rattle.put.specs.Put.{Shows};
 ghost use Rattle.lanes.specs.Lanes.{lanes, Eight, bitOf, FilledTo};
 
 // A one in each of eight octets.
-const ONES: u64 = 72340172838076673;
+const ONES: u64 = 0x0101_0101_0101_0101;
 
-// A number above one octet more.
+// Ones nine bits apart: a product with it is four copies of what is multiplied, each nine bits above the last.
+const COPIES: u64 = 0x0804_0201;
+
+// A number with an octet put below it.
 fn above(w: u64, x: u8) -> u64
     requires { ⌜ w < 2 ^ 56 ⌝ }
     ensures { λ r. ⌜ r ≡ w * 256 + x ⌝ }
@@ -20,7 +23,7 @@ fn above(w: u64, x: u8) -> u64
     w * 256 + x as u64
 }
 
-// The octets from one on as a number; where they are eight, a processor reads them at once.
+// The c octets from one on as a number, the first lowest: where they are eight, a processor reads them at once.
 pub fn load(s: &[u8], at: usize, c: usize) -> u64
     requires { ⌜ (at + c ≤ length (now s)) × (c ≤ 8) ⌝ }
     ensures { λ r. ⌜ r ≡ lanes (map (λ i. getD (now (s .entry)) i 0) (count c at)) ⌝ }
@@ -32,7 +35,7 @@ pub fn load(s: &[u8], at: usize, c: usize) -> u64
     w
 }
 
-// The octets from one on made those of a number.
+// The c octets from one on made those of a number.
 pub fn store(s: &mut [u8], at: usize, c: usize, w: u64)
     requires { ⌜ (at + c ≤ length (now s)) × (c ≤ 8) ⌝ }
     ensures { λ _. ⌜ ((f : ℕ → ℕ) (d : List ℕ) → Eight f at w → FilledTo f at d (now (s .entry)) → FilledTo f (at + c) d (now (s .exit))) ⌝ }
@@ -44,24 +47,25 @@ pub fn store(s: &mut [u8], at: usize, c: usize, w: u64)
     }
 }
 
-// Bit d of each of eight octets as a byte, the first octet's on top. Both halves of the eight are folded into one, so that a product has room for all the
-// places to which a multiplication moves them; those wanted stand side by side in it.
+// Bit d of each of eight octets as a byte, the first octet's on top. The bits of the last four octets are folded in below those of the first four. Copies of
+// these, nine bits apart, bring each octet's beside the next one's: in bits 31 to 24 they are the byte. (Eight copies without the fold would run over.)
 pub fn gathered(w: u64, d: usize) -> u8
     requires { ⌜ d < 8 ⌝ }
     ensures { λ r. ⌜ ((f : ℕ → ℕ) (a : ℕ) → Eight f a w → r ≡ number (map (λ i. bitOf (f i) d) (count 8 a))) ⌝ }
 {
-    let m = (w & (ONES << d)) >> d;
-    let folded = m % 4294967296 * 16 + m / 4294967296;
-    (folded * 134480385 / 16777216 % 256) as u8
+    let bits = (w & (ONES << d)) >> d;
+    let folded = bits % 4294967296 * 16 + bits / 4294967296;
+    (folded * COPIES / 16777216 % 256) as u8
 }
 
-// The bits of a byte in eight octets, the first of them in the lowest.
+// The bits of a byte in eight octets, the top bit in the first. Of four copies of half a byte, nine bits apart, each has another of its bits where an octet
+// has bit 3.
 fn spread(v: u8) -> u64
     ensures { λ r. ⌜ ((g : ℕ → Bool) (a : ℕ) → Shows v g a → r ≡ lanes (map (λ i. toN (g i)) (count 8 a))) × (r ≤ 72340172838076673) ⌝ }
 {
     let x = v as u64;
-    let folded = x / 16 + x % 16 * 4294967296;
-    folded * 134480385 / 8 & ONES
+    let halves = x / 16 + x % 16 * 4294967296;
+    halves * COPIES / 8 & ONES
 }
 
 // Eight octets with bit d of each made a bit of a byte, the first octet's the top one.
