@@ -16,6 +16,7 @@ use Rattle.bits.specs.Bit.{toN, number, count}
 use Rattle.bits.specs.Put.{putIn}
 use Rattle.bits.proofs.BitLaws.{toN-lt, one-toN, rebuilt}
 use Rattle.put.specs.Put.{Shows}
+use Rattle.channel.proofs.BoolLaws.{and-l, and-r}
 use Rattle.put.proofs.PutLaws.{put-apart}
 use Rattle.lanes.specs.Lanes.{lanes, Eight, bitOf}
 use Rattle.lanes.proofs.LaneLaws.{lanes-and, lanes-add, lanes-mul, lanes-same}
@@ -36,30 +37,20 @@ abbrev every : ℕ → (List Bool → Bool) → Bool
 every zero t = t []
 every (suc n) t = every n (λ bs. t (true ∷ bs)) && every n (λ bs. t (false ∷ bs))
 
-both : (a b : Bool) → a && b ≡ true → (a ≡ true) × (b ≡ true)
-both true b h = (refl, h)
-both false b h = (h, cc)
-
-abbrev gathers : List Bool → Bool
-gathers bs = eqb (gather (lanes (map toN bs))) (number bs)
-
-abbrev spreads : List Bool → Bool
-spreads bs = eqb (spreadOf (number bs)) (lanes (map toN bs))
-
--- holds at each
+-- if it holds, it holds at each
 every-at : (n : ℕ) (t : List Bool → Bool) → every n t ≡ true → (bs : List Bool) → length bs ≡ n → t bs ≡ true
 every-at zero t h [] e = h
 every-at zero t h (b ∷ bs) e = absurd (omega arith)
 every-at (suc n) t h [] e = absurd (omega arith)
-every-at (suc n) t h (true ∷ bs) e = every-at n (λ cs. t (true ∷ cs)) (both (every n (λ cs. t (true ∷ cs))) _ h .0) bs (omega arith)
-every-at (suc n) t h (false ∷ bs) e = every-at n (λ cs. t (false ∷ cs)) (both (every n (λ cs. t (true ∷ cs))) _ h .1) bs (omega arith)
+every-at (suc n) t h (true ∷ bs) e = every-at n (λ cs. t (true ∷ cs)) (and-l _ (every n (λ cs. t (false ∷ cs))) h) bs (omega arith)
+every-at (suc n) t h (false ∷ bs) e = every-at n (λ cs. t (false ∷ cs)) (and-r (every n (λ cs. t (true ∷ cs))) _ h) bs (omega arith)
 
--- eight bits are gathered, and spread, whatever they are
+-- eight bits are gathered, and spread, whatever they are: one computed test each
 gather-bits : (bs : List Bool) → length bs ≡ 8 → gather (lanes (map toN bs)) ≡ number bs
-gather-bits bs e = eqb-true _ _ (every-at 8 gathers refl bs e)
+gather-bits bs e = eqb-true _ _ (every-at 8 (λ bs. eqb (gather (lanes (map toN bs))) (number bs)) refl bs e)
 
 spread-bits : (bs : List Bool) → length bs ≡ 8 → spreadOf (number bs) ≡ lanes (map toN bs)
-spread-bits bs e = eqb-true _ _ (every-at 8 spreads refl bs e)
+spread-bits bs e = eqb-true _ _ (every-at 8 (λ bs. eqb (spreadOf (number bs)) (lanes (map toN bs))) refl bs e)
 
 -- a byte is spread
 pub spread-is : (v : ℕ) (g : ℕ → Bool) (a : ℕ) → v < 256 → Shows v g a → spreadOf v ≡ lanes (map (λ i. toN (g i)) (count 8 a))
@@ -83,12 +74,14 @@ and-bit x d =
 abbrev others : ℕ → ℕ → ℕ
 others d x = x / 2 ^ d / 2 * 2 * 2 ^ d + x % 2 ^ d
 
+-- the two are the octet
 others-and : (d x : ℕ) → x ≡ others d x + toN (bitOf x d) * 2 ^ d
 others-and d x =
     let b : toN (bitOf x d) ≡ x / 2 ^ d % 2 = one-toN (x / 2 ^ d % 2) (omega arith) in
     let q : x / 2 ^ d / 2 * 2 + x / 2 ^ d % 2 ≡ x / 2 ^ d = omega arith in
     rw b (omega (arith, split x d, ap (λ (n : ℕ). n * 2 ^ d) q, add-mul (x / 2 ^ d / 2 * 2) (x / 2 ^ d % 2) (2 ^ d)))
 
+-- and with another bit they are that bit put
 others-put : (d x b : ℕ) → others d x + b * 2 ^ d ≡ putIn x d b
 others-put d x b = omega (arith, add-mul (x / 2 ^ d / 2 * 2) b (2 ^ d))
 
