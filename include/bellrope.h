@@ -170,9 +170,9 @@ bellrope_answer bellrope_write(const uint8_t *records, size_t records_len, uint6
  *   if (number != BELLROPE_TAKEN) return number;
  *   bellrope_capture capture = bellrope_capture_of(bytes, sizeof bytes, length, BELLROPE_UPLINK);
  *
- * A longer recording goes by timeslots of a multiple of eight octets each, and the bytes joined.
- * Putting back changes the channel's bits and no others; what bytes have behind them is not looked
- * at. */
+ * A longer recording goes by timeslots of a multiple of eight octets each, but the last: the bytes
+ * taken out of them, joined, are the channel's. Putting back changes the channel's bits and no
+ * others; what bytes have behind them is not looked at. */
 uint64_t bellrope_take_channel(const uint8_t *timeslot, size_t timeslot_len, uint64_t channel,
                                uint8_t *buffer, size_t buffer_len);
 uint64_t bellrope_put_channel(uint8_t *timeslot, size_t timeslot_len, uint64_t channel,

@@ -2,10 +2,11 @@
 -- either order; a channel taken out reads as it stands in the timeslot.
 -- Assumes nothing.
 use mathlib.Core.Path.{_≡_, refl, ap, sym, subst, _∙_}
-use mathlib.Core.List.{List, _++_}
-use Prim.Native.Nat.{ℕ, zero, suc, _*_, _/_, _<_, _≤_}
+use mathlib.Core.List.{List, _++_, append-assoc}
+use Prim.Native.Nat.{ℕ, zero, suc, _+_, _*_, _/_, _%_, _<_, _≤_}
 use native.Mathlib.Omega.{arith}
-use lib.ListN.{length, drop, length-append, length-drop, List·getD-append}
+use lib.ListN.{length, take, drop, length-append, length-drop, List·getD-append}
+use lib.Seq.{take-at, drop-at, drop-drop}
 use Rattle.reading.specs.Reading.{Cursor, Item, Reading}
 use Rattle.bits.specs.Bit.{bitAt}
 use Rattle.channel.specs.declared.Terms.{Terms}
@@ -15,7 +16,7 @@ use Rattle.channel.specs.Growth.{Agree}
 use Rattle.channel.proofs.UnseenLaws.{reading-same}
 use Rattle.timeslot.specs.Timeslot.{channelBit, bytesFor, takenOut, putBack, refusal, afterBy, TakeCall, PutCall, channelOf}
 use Rattle.timeslot.proofs.CallLaws.{admitted, enough-same}
-use Rattle.timeslot.proofs.TimeslotLaws.{length-taken, taken-bit, taken-same, length-put, put-bit, put-other, put-unseen, put-taken, put-either}
+use Rattle.timeslot.proofs.TimeslotLaws.{length-taken, taken-bit, taken-same, taken-joined, length-put, put-bit, put-other, put-unseen, put-taken, put-either}
 
 -- what is taken out: the channel's bits, in a buffer of its length, which they fit
 module _ (t : List ℕ) (k : ℕ) (buffer after : List ℕ) (p : TakeCall t k buffer 0 after) where
@@ -46,6 +47,19 @@ module _ (t : List ℕ) (k : ℕ) (buffer after : List ℕ) (p : TakeCall t k bu
       let fit = admitted k (length t) (length buffer) (sym (p .answer)) in
       let none : number ≡ 0 = q .answer ∙ ap (refusal k (length t)) taken-length ∙ sym (p .answer) in
       (none, q .left ∙ ap (λ (n : ℕ). afterBy n (putBack t k after) t) none ∙ put-taken t k after (fit .from) (fit .to) taken-bits)
+
+-- a longer recording: what follows a multiple of eight octets, taken out into the buffer's rest behind their bytes, leaves there what both at once would
+pub taken-on : (t u : List ℕ) (k : ℕ) (buffer x y : List ℕ) → length t % 8 ≡ 0 → TakeCall t k buffer 0 x → TakeCall u k (drop (bytesFor (length t)) x) 0 y
+    → take (bytesFor (length t)) x ++ y ≡ takenOut (t ++ u) k ++ drop (bytesFor (length (t ++ u))) buffer
+taken-on t u k buffer x y whole p q =
+    let fit = admitted k (length t) (length buffer) (sym (p .answer)) in
+    let n = bytesFor (length t) in
+    let m = bytesFor (length u) in
+    let front : take n x ≡ takenOut t k = ap (take n) (p .left) ∙ take-at (takenOut t k) (drop n buffer) n (length-taken t k) in
+    let rest : drop n x ≡ drop n buffer = ap (drop n) (p .left) ∙ drop-at (takenOut t k) (drop n buffer) n (length-taken t k) in
+    let back : y ≡ takenOut u k ++ drop (n + m) buffer = q .left ∙ ap (λ (b : List ℕ). takenOut u k ++ drop m b) rest ∙ ap (λ (b : List ℕ). takenOut u k ++ b) (drop-drop m n buffer) in
+    let all : n + m ≡ bytesFor (length (t ++ u)) = omega (arith, length-append t u) in
+    rw (front, back, all, taken-joined t u k (fit .from) (fit .to) whole) (sym (append-assoc (takenOut t k) (takenOut u k) (drop (bytesFor (length (t ++ u))) buffer)))
 
 -- bytes that have the same bits of the channel are put back alike: what they have behind these is not looked at
 pub bytes-unseen : (t : List ℕ) (k : ℕ) (a b : List ℕ) (m n : ℕ) (x y : List ℕ) → bytesFor (length t) ≤ length a → bytesFor (length t) ≤ length b → Agree (length t) (bitAt a) (bitAt b)

@@ -3,23 +3,24 @@
 use mathlib.Core.Path.{_≡_, ap, sym, _∙_}
 use mathlib.Core.Logic.{by-cases}
 use mathlib.Core.Bool.{Bool}
-use mathlib.Core.List.{List, map}
-use Prim.Native.Nat.{ℕ, _+_, _-_, _<_, _≤_}
+use mathlib.Core.List.{List, _++_, map}
+use Prim.Native.Nat.{ℕ, _+_, _*_, _-_, _/_, _%_, _<_, _≤_}
 use native.Mathlib.Nat.{zero-add}
 use native.Mathlib.Decide.{decLt}
 use native.Mathlib.Omega.{arith}
 use borrow.Author.Tests.{lt-ltb}
 use lib.Dec.{eqb}
-use lib.ListN.{length, getD, List·getD-eq-default}
-use lib.Seq.{ext-getD}
-use Rattle.bits.specs.Bit.{bitAt, toN, count, octetOf, bitsFrom}
+use lib.ListN.{length, getD, length-append, List·getD-append, List·getD-eq-default}
+use lib.Seq.{ext-getD, getD-append-add}
+use Rattle.bits.specs.Bit.{bitAt, toN, number, count, octetOf, bitsFrom}
 use Rattle.bits.proofs.BitLaws.{toN-lt, toN-one, unseen, octets-bit}
-use Rattle.bits.proofs.CountLaws.{length-map-count, getD-map-count, map-count-same}
+use Rattle.bits.proofs.CountLaws.{length-map-count, getD-map-count, map-count-same, map-count-split}
 use Rattle.bits.specs.Put.{putIn}
 use Rattle.put.proofs.PutLaws.{put-same, put-apart}
+use Rattle.lanes.specs.Lanes.{bitOf}
 use Rattle.lanes.proofs.GatherLaws.{put-own, put-swap}
 use Rattle.timeslot.specs.Timeslot.{channelBit, bytesFor, takenOut, octetWith, putBack}
-use Rattle.timeslot.proofs.ByteLaws.{channel-bit}
+use Rattle.timeslot.proofs.ByteLaws.{channel-bit, byte-is}
 
 -- a channel taken out has the bytes that its bits need
 pub length-taken : (t : List ℕ) (k : ℕ) → length (takenOut t k) ≡ bytesFor (length t)
@@ -38,6 +39,29 @@ unfolding takenOut
 taken-same t u k e same =
     ap (λ (g : ℕ → Bool). map (octetOf g) (count (bytesFor (length t)) 0)) (unseen (channelBit t k) (channelBit u k) (length t) 0 same)
     ∙ ap (λ (n : ℕ). map (octetOf (bitsFrom (channelBit u k) n 0)) (count (bytesFor n) 0)) e
+
+-- a byte of a channel is the same in two timeslots where its octets are
+byte-same : (s t : List ℕ) (k x y : ℕ) → 0 < k → k ≤ 8 → ((i : ℕ) → i < 8 → getD s (8 * x + i) 0 ≡ getD t (8 * y + i) 0)
+    → octetOf (bitsFrom (channelBit s k) (length s) 0) x ≡ octetOf (bitsFrom (channelBit t k) (length t) 0) y
+byte-same s t k x y a b same =
+    sym (byte-is s k x a b)
+    ∙ ap number (map-count-same (λ i. bitOf (getD s i 0) (8 - k)) (λ i. bitOf (getD t i 0) (8 - k)) 8 (8 * x) (8 * y) (λ i l. ap (λ (o : ℕ). bitOf o (8 - k)) (same i l)))
+    ∙ byte-is t k y a b
+
+-- of a longer recording: behind a multiple of eight octets, the bytes of what follows follow
+pub taken-joined : (t u : List ℕ) (k : ℕ) → 0 < k → k ≤ 8 → length t % 8 ≡ 0 → takenOut (t ++ u) k ≡ takenOut t k ++ takenOut u k
+unfolding takenOut
+taken-joined t u k a b whole =
+    let byte : List ℕ → ℕ → ℕ = λ s. octetOf (bitsFrom (channelBit s k) (length s) 0) in
+    let q = length t / 8 in
+    let m = bytesFor (length u) in
+    let all : bytesFor (length (t ++ u)) ≡ q + m = omega (arith, length-append t u) in
+    let first : bytesFor (length t) ≡ q = omega arith in
+    let front = map-count-same (byte (t ++ u)) (byte t) q 0 0 (λ j l. byte-same (t ++ u) t k (0 + j) (0 + j) a b (λ i n. List·getD-append t u 0 (8 * (0 + j) + i) (omega arith))) in
+    let back = map-count-same (byte (t ++ u)) (byte u) m (0 + q) 0 (λ j l. byte-same (t ++ u) u k (0 + q + j) (0 + j) a b (λ i n.
+    let at : length t + (8 * (0 + j) + i) ≡ 8 * (0 + q + j) + i = omega arith in
+    rw at at (getD-append-add t u (8 * (0 + j) + i) 0))) in
+    rw (all, first) (map-count-split (byte (t ++ u)) q m 0 ∙ rw (front, back))
 
 -- putting back keeps the length
 pub length-put : (t : List ℕ) (k : ℕ) (bytes : List ℕ) → length (putBack t k bytes) ≡ length t
