@@ -9,16 +9,10 @@ use borrow.Author.Tests.{le-ltb, ltb-false, eqb-false}
 use lib.Dec.{eqb, ltb}
 use Rattle.call.proofs.NumberLaws.{passed}
 use Rattle.timeslot.specs.Timeslot.{bytesFor, outside, refusal, afterBy, ChannelCall}
+use Rattle.timeslot.specs.Share.{Admitted}
 use Rattle.channel.proofs.BoolLaws.{never}
 
--- what the numbers ask of a request
-pub record Admitted (k octets bytes : ℕ) : Type 0 where
-  pub from : 0 < k
-  pub to : k ≤ 8
-  pub short : octets ≤ 65536
-  pub room : bytesFor octets ≤ bytes
-
--- it holds where they do not refuse it
+-- what the numbers ask of a request holds where they do not refuse it
 pub admitted : (k octets bytes : ℕ) → refusal k octets bytes ≡ 0 → Admitted k octets bytes
 admitted k octets bytes e =
     let (a, e₁) = passed (outside k) 7 _ (omega arith) e in

@@ -5,7 +5,7 @@ ghost use Prim.Native.Nat.{ℕ, _+_, _*_, _<_, _≤_};
 ghost use lib.ListN.{length, getD, drop};
 ghost use Rattle.bits.specs.Bit.{octetOf, bitsFrom};
 ghost use Rattle.timeslot.specs.Timeslot.{channelBit, bytesFor, takenOut, putBack, outside, refusal, TakeCall, PutCall};
-ghost use Rattle.timeslot.specs.Share.{Share, PutTo};
+ghost use Rattle.timeslot.specs.Share.{Admitted, Share, PutTo};
 
 // Whether a channel number lies outside 1 to 8.
 fn outside(channel: u64) -> bool
@@ -49,7 +49,7 @@ fn byte_of(timeslot: &[u8], k: usize, j: usize, c: usize) -> u8
 
 // Channel k into the front of a buffer.
 fn take_out(timeslot: &[u8], k: usize, buffer: &mut [u8])
-    requires { ⌜ (0 < k) × (k ≤ 8) × (length (now timeslot) ≤ 65536) × (bytesFor (length (now timeslot)) ≤ length (now buffer)) ⌝ }
+    requires { ⌜ Admitted k (length (now timeslot)) (length (now buffer)) ⌝ }
     ensures { λ _. ⌜ now (buffer .exit) ≡ takenOut (now (timeslot .entry)) k ++ drop (bytesFor (length (now (timeslot .entry)))) (now (buffer .entry)) ⌝ }
 {
     let whole = timeslot.len() / 8;
@@ -73,7 +73,7 @@ fn put_byte(timeslot: &mut [u8], k: usize, j: usize, c: usize, v: u8)
 
 // Channel k back into a timeslot.
 fn put_back(timeslot: &mut [u8], k: usize, bytes: &[u8])
-    requires { ⌜ (0 < k) × (k ≤ 8) × (length (now timeslot) ≤ 65536) × (bytesFor (length (now timeslot)) ≤ length (now bytes)) ⌝ }
+    requires { ⌜ Admitted k (length (now timeslot)) (length (now bytes)) ⌝ }
     ensures { λ _. ⌜ now (timeslot .exit) ≡ putBack (now (timeslot .entry)) k (now (bytes .entry)) ⌝ }
 {
     let whole = timeslot.len() / 8;

@@ -10,9 +10,7 @@ returns : tie.Need-returns
 returns c = refused-call _ _ _ _ _ (c .before .refusal .result) (c .before .refusal .ensures) (c .if1 .taken)
 
 put-back-requires : tie.Need-put-back-requires
-put-back-requires c κs =
-    let fit = admitted _ _ _ (sym (c .before .before .refusal .ensures) ∙ c .before .if1 .left) in
-    (fit .from, fit .to, fit .short, fit .room)
+put-back-requires c κs = admitted _ _ _ (sym (c .before .before .refusal .ensures) ∙ c .before .if1 .left)
 
 returns-2 : tie.Need-returns-2
 returns-2 c = record { answer = sym (c .before .before .before .before .if1 .left) ∙ c .before .before .before .before .before .refusal .ensures; left = c .before .before .put-back .ensures }
