@@ -1,14 +1,14 @@
-/* The program whose instructions are counted for the channels of a timeslot: it takes one out, or puts one back. It also compares the plain calls with the
- * library's, and looks how deep the stack went.
+/* The program whose instructions are counted for the channels of a timeslot: it takes one out, or puts one back. It also compares the calls of the peer that
+ * it is linked with (plain_channel.c, osmo_channel.c) with the library's, and looks how deep the stack went.
  *
- *   channel take library|plain FILE OCTETS CHANNEL TIMES   takes the channel out of the first OCTETS of the timeslot TIMES times
- *   channel put library|plain FILE OCTETS CHANNEL TIMES    puts bytes back as the channel of a timeslot of OCTETS TIMES times
- *   channel same FILE                                      compares what the plain calls leave with what the library's do
- *   channel stack FILE                                     prints the most bytes of stack that taking out took, and putting back
+ *   channel take library|peer FILE OCTETS CHANNEL TIMES   takes the channel out of the first OCTETS of the timeslot TIMES times
+ *   channel put library|peer FILE OCTETS CHANNEL TIMES    puts bytes back as the channel of a timeslot of OCTETS TIMES times
+ *   channel same FILE                                     compares what the peer's calls leave with what the library's do
+ *   channel stack FILE                                    prints the most bytes of stack that taking out took, and putting back
  *
  * The first 65,536 bytes of FILE are the timeslot, and the first 8,192 of them are also the bytes put back: any file of that length will do. TIMES is as
  * in harvest.c. */
-#include "plain.h"
+#include "peer.h"
 #include "stack.h"
 #include <stdio.h>
 #include <stdlib.h>
@@ -22,7 +22,7 @@ typedef struct {
 } calls;
 
 static calls library = {.take = bellrope_take_channel, .put = bellrope_put_channel};
-static calls plain = {.take = plain_take_channel, .put = plain_put_channel};
+static calls peer = {.take = peer_take_channel, .put = peer_put_channel};
 static uint8_t file[BELLROPE_OCTETS_MOST];
 static size_t octets;
 static uint64_t channel;
@@ -62,9 +62,9 @@ static void take_and_put(calls *by) {
 /* Compares the buffers and the timeslots that the calls leave, whole. */
 static void same(void) {
 	take_and_put(&library);
-	take_and_put(&plain);
-	if (memcmp(library.buffer, plain.buffer, sizeof plain.buffer) || memcmp(library.timeslot, plain.timeslot, sizeof plain.timeslot))
-		fail("the plain calls and the library's differ. One of them is wrong; tests/compare says whether it is the library's.");
+	take_and_put(&peer);
+	if (memcmp(library.buffer, peer.buffer, sizeof peer.buffer) || memcmp(library.timeslot, peer.timeslot, sizeof peer.timeslot))
+		fail("the peer's calls and the library's differ. One of them is wrong; tests/compare says whether it is the library's.");
 }
 
 enum { TAKING, PUTTING }; /* the stacks of these calls */
@@ -85,7 +85,7 @@ int main(int argc, char **argv) {
 	const char *what = argc > 1 ? argv[1] : "";
 	if ((!strcmp(what, "take") || !strcmp(what, "put")) && argc == 7) {
 		void (*job)(calls *) = strcmp(what, "put") ? take : put;
-		calls *by = strcmp(argv[2], "plain") ? &library : &plain;
+		calls *by = strcmp(argv[2], "peer") ? &library : &peer;
 		load(argv[3]);
 		octets = strtoul(argv[4], NULL, 10);
 		channel = strtoul(argv[5], NULL, 10);
@@ -104,6 +104,6 @@ int main(int argc, char **argv) {
 		printf("taking %zu\nputting %zu\n", depth(TAKING), depth(PUTTING));
 		return 0;
 	}
-	fprintf(stderr, "usage: channel take|put library|plain FILE OCTETS CHANNEL TIMES | same FILE | stack FILE\n");
+	fprintf(stderr, "usage: channel take|put library|peer FILE OCTETS CHANNEL TIMES | same FILE | stack FILE\n");
 	return 2;
 }

@@ -108,7 +108,7 @@ function check_all(i) {
 	exit failed
 }
 
-# Instructions a bit or an octet as the tables show them. Those of libosmotrau differ a little from run to run, in the third decimal.
+# Instructions a bit or an octet as the tables show them. Those of Osmocom's libraries differ a little from run to run, in the third decimal.
 function shown(name, reader, bytes) {
 	if (!((name, reader "-" bytes) in of)) return "not had"
 	return sprintf(reader == "osmo" ? "%.1f" : "%.2f", each(name, reader, bytes))
@@ -125,8 +125,8 @@ function other_row(name) {
 }
 
 function channel_row(name) {
-	printf "| %s | %s | %s | %s | %s | %s |\n", title[name], shown(name, "library", 65536), limit[name], shown(name, "plain", 65536),
-		shown(name, "library", 8192), shown(name, "library", 65535)
+	printf "| %s | %s | %s | %s | %s | %s | %s |\n", title[name], shown(name, "library", 65536), limit[name], shown(name, "plain", 65536),
+		shown(name, "osmo", 65536), shown(name, "library", 8192), shown(name, "library", 65535)
 }
 
 function harvests(i, records) {
@@ -155,9 +155,9 @@ function harvests(i, records) {
 	printf "- Plain C is bench/plain.c, compiled by %s with -O2. It does the same work bit by bit, as one would write it from the specification.\n",
 		of["plain", "compiler"]
 	print "  Each run compares its pages with the library's: they are the same, byte for byte."
-	if (("osmo", "version") in of) {
+	if (("osmo", "frames") in of) {
 		printf "- libosmotrau is Debian's package, version %s. It only finds frames: it is told one pattern (HR; for AMR, Low) and looks for that\n",
-			of["osmo", "version"]
+			of["osmo", "frames"]
 		print "  alone, checks no CRC, knows no tail and writes no record. It takes a byte for each bit, and making that of the capture is not counted. Of the"
 		print "  frames that it hands out not all need have the fixed bits of the pattern; the last column says how many do."
 		printf "  Its decoder, called for each, takes %d of the %d in the first row.\n", of["hr", "decoded"], of["hr", "handed"]
@@ -182,14 +182,21 @@ function timeslots(i) {
 	print "channels is counted, and the largest number shown. A cost linear in the octets shows as equal numbers, also where the channel's last byte is"
 	printf "partly filled (65,535 octets): the largest difference from the value for 65,536 is %.2f %%, %s %% being allowed.\n\n", timeslot_growth(),
 		growth_limit
-	print "| Call | Bellrope | Limit | Plain C | 8,192 octets | 65,535 octets |"
-	print "|---|---:|---:|---:|---:|---:|"
+	print "| Call | Bellrope | Limit | Plain C | libosmogsm | 8,192 octets | 65,535 octets |"
+	print "|---|---:|---:|---:|---:|---:|---:|"
 	for (i = bitwise + 1; i <= rows; i++) channel_row(names[i])
 	print ""
 	print "- Start-up is not in the numbers: they are two calls less one."
 	print "- Octets and bytes put back are noise."
-	print "- Plain C is bench/plain_channel.c, compiled as bench/plain.c is. It goes octet by octet, a bit of each. Each run compares what it leaves of"
-	print "  buffer and timeslot with what the library does, for each channel and each number of bits in the last byte: they are the same, byte for byte."
+	print "- Plain C is bench/plain_channel.c, compiled as bench/plain.c is. It goes octet by octet, a bit of each."
+	if (("osmo", "channel") in of) {
+		printf "- libosmogsm is Debian's package libosmocore, version %s; its channels are the sub-channels of ITU-T I.460. It makes whole timeslots and\n",
+			of["osmo", "channel"]
+		print "  changes none: to put a channel back, all eight are taken out and the timeslot is made anew."
+	} else
+		print "- libosmogsm could not be had where this was made."
+	print "- Each run compares what these leave of buffer and timeslot with what the library does, for each channel and each number of bits in the last"
+	print "  byte: they are the same, byte for byte."
 }
 
 function stacks() {
