@@ -14,16 +14,16 @@ use Rattle.lanes.proofs.load.Statement.{statement}
 use Rattle.lanes.proofs.load.Tie as tie
 
 abbrev Inv-loop : tie.InvT-loop
-Inv-loop s at c w₀ j₀ w j = (j ≤ c) × (w < 2 ^ (8 * j)) × (w ≡ lanes (map (λ i. getD s i 0) (count j (at + (c - j)))))
+Inv-loop s at c w₀ j₀ w j = (j ≤ c) × (w ≡ lanes (map (λ i. getD s i 0) (count j (at + (c - j))))) × (w < 2 ^ (8 * j))
 
 abbrev μ-loop : tie.MeasureT-loop
 μ-loop s at c w₀ j₀ w j = c - j
 
 loop-holds : tie.Need-loop-holds Inv-loop μ-loop
-loop-holds c = (omega arith, omega arith, refl)
+loop-holds c = (omega arith, refl, omega arith)
 
 above-requires : tie.Need-above-requires Inv-loop μ-loop
-above-requires c κs = let l = c .before .before .loop in omega (arith, l .inv .1, pow-mono {i = 8 * l .j} {j = 56} (omega arith))
+above-requires c κs = let l = c .before .before .loop in omega (arith, l .inv .2, pow-mono {i = 8 * l .j} {j = 56} (omega arith))
 
 loop-again : tie.Need-loop-again Inv-loop μ-loop
 loop-again c =
@@ -35,8 +35,8 @@ loop-again c =
     let here : a .at + (a .c - (l .j + 1)) ≡ i = omega arith in
     let next : suc i ≡ a .at + (a .c - l .j) = omega arith in (
       omega arith,
-      rw (bits, up) (omega (arith, l .inv .1, c .above .ensures, c .before .shared-slice-known2 .given i)),
-      rw (here, add-one, next) (c .above .ensures ∙ ap (λ (n : ℕ). n * 256 + getD (a .s .now) i 0) (l .inv .2)),
+      rw (here, add-one, next) (c .above .ensures ∙ ap (λ (n : ℕ). n * 256 + getD (a .s .now) i 0) (l .inv .1)),
+      rw (bits, up) (omega (arith, l .inv .2, c .above .ensures, c .before .shared-slice-known2 .given i)),
     )
 
 returns : tie.Need-returns Inv-loop μ-loop
@@ -45,7 +45,7 @@ returns c =
     let a = c .before .before .before .args in
     let all : l .j ≡ a .c = omega arith in
     let first : a .at + (a .c - a .c) ≡ a .at = omega arith in
-    rw (all, first) at (l .inv .2)
+    rw (all, first) at (l .inv .1)
 
 pub load-spec : {M : Type 1} → statement M
 load-spec =

@@ -33,7 +33,7 @@ loop-again c =
     let more : 8 - l .j ≡ suc (7 - l .j) = omega arith in
     let fewer : 8 - (l .j + 1) ≡ 7 - l .j = omega arith in (
       omega arith,
-      length-set (l .s) now (l .left % 256) ∙ l .inv .1,
+      length-set (l .s) _ _ ∙ l .inv .1,
       λ f d e h.
           let (filled, left) = l .inv .2 f d e h in
           let (octet, rest) = lowest f (7 - l .j) now (l .left) (e .octets now (omega arith)) (rw more at left) in
