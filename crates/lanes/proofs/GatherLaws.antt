@@ -18,12 +18,8 @@ use Rattle.bits.proofs.BitLaws.{toN-lt, one-toN, rebuilt}
 use Rattle.put.specs.Put.{Shows}
 use Rattle.channel.proofs.BoolLaws.{and-l, and-r}
 use Rattle.put.proofs.PutLaws.{put-apart}
-use Rattle.lanes.specs.Lanes.{lanes, Eight, bitOf}
+use Rattle.lanes.specs.Lanes.{lanes, ones, Eight, bitOf}
 use Rattle.lanes.proofs.LaneLaws.{lanes-and, lanes-add, lanes-mul, lanes-same}
-
--- a one in each of eight octets
-abbrev pub ones : ℕ
-ones = 72340172838076673
 
 -- the multiplication that gathers, and the one that spreads
 abbrev pub gather : ℕ → ℕ

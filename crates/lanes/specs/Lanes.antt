@@ -13,6 +13,10 @@ abbrev pub lanes : List ℕ → ℕ
 lanes [] = 0
 lanes (x ∷ xs) = lanes xs * 256 + x
 
+-- a one in each of eight octets
+abbrev pub ones : ℕ
+ones = 72340172838076673
+
 -- the number w is the eight octets f a, f (a + 1), ..
 pub record Eight (f : ℕ → ℕ) (a w : ℕ) : Type 0 where
   pub octets : (i : ℕ) → a ≤ i → f i < 256

@@ -7,13 +7,16 @@ ghost use lib.ListN.{length, getD};
 ghost use Rattle.bits.specs.Bit.{toN, number, count};
 ghost use Rattle.bits.specs.Put.{putIn};
 ghost use Rattle.put.specs.Put.{Shows};
-ghost use Rattle.lanes.specs.Lanes.{lanes, Eight, bitOf, FilledTo};
+ghost use Rattle.lanes.specs.Lanes.{lanes, ones, Eight, bitOf, FilledTo};
 
 // A one in each of eight octets.
 const ONES: u64 = 0x0101_0101_0101_0101;
 
 // Ones nine bits apart: a product with it is four copies of what is multiplied, each nine bits above the last.
 const COPIES: u64 = 0x0804_0201;
+
+// What the fifth of eight octets weighs: the first four stand below it.
+const HALF: u64 = 0x1_0000_0000;
 
 // A number with an octet put below it.
 fn above(w: u64, x: u8) -> u64
@@ -54,17 +57,17 @@ pub fn gathered(w: u64, d: usize) -> u8
     ensures { λ r. ⌜ ((f : ℕ → ℕ) (a : ℕ) → Eight f a w → r ≡ number (map (λ i. bitOf (f i) d) (count 8 a))) ⌝ }
 {
     let bits = (w & (ONES << d)) >> d;
-    let folded = bits % 4294967296 * 16 + bits / 4294967296;
-    (folded * COPIES / 16777216 % 256) as u8
+    let folded = bits % HALF * 16 + bits / HALF;
+    (folded * COPIES / 0x100_0000 % 256) as u8
 }
 
 // The bits of a byte in eight octets, the top bit in the first. Of four copies of half a byte, nine bits apart, each has another of its bits where an octet
 // has bit 3.
 fn spread(v: u8) -> u64
-    ensures { λ r. ⌜ ((g : ℕ → Bool) (a : ℕ) → Shows v g a → r ≡ lanes (map (λ i. toN (g i)) (count 8 a))) × (r ≤ 72340172838076673) ⌝ }
+    ensures { λ r. ⌜ ((g : ℕ → Bool) (a : ℕ) → Shows v g a → r ≡ lanes (map (λ i. toN (g i)) (count 8 a))) × (r ≤ ones) ⌝ }
 {
     let x = v as u64;
-    let halves = x / 16 + x % 16 * 4294967296;
+    let halves = x / 16 + x % 16 * HALF;
     halves * COPIES / 8 & ONES
 }
 

@@ -7,7 +7,8 @@ use native.Mathlib.Omega.{arith}
 use borrow.Author.Needs.{needs}
 use lib.Bits.{bitAnd, and-le-l}
 use lib.Pow.{shr-le}
-use Rattle.lanes.proofs.GatherLaws.{ones, gather, shift-up, gathered-is}
+use Rattle.lanes.specs.Lanes.{ones}
+use Rattle.lanes.proofs.GatherLaws.{gather, shift-up, gathered-is}
 use Rattle.lanes.proofs.gathered.Statement.{statement}
 use Rattle.lanes.proofs.gathered.Tie as tie
 

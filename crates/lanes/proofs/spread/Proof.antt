@@ -4,7 +4,8 @@ use Prim.Native.Nat.{_+_, _*_, _/_, _%_}
 use native.Mathlib.Omega.{arith}
 use borrow.Author.Needs.{needs}
 use lib.Bits.{and-le-r}
-use Rattle.lanes.proofs.GatherLaws.{ones, spread-is}
+use Rattle.lanes.specs.Lanes.{ones}
+use Rattle.lanes.proofs.GatherLaws.{spread-is}
 use Rattle.lanes.proofs.spread.Statement.{statement}
 use Rattle.lanes.proofs.spread.Tie as tie
 

@@ -3,7 +3,8 @@
 use native.Mathlib.Omega.{arith}
 use borrow.Author.Needs.{needs}
 use lib.Bits.{and-le-l}
-use Rattle.lanes.proofs.GatherLaws.{ones, shift-up, put-is, put-octets, put-fits}
+use Rattle.lanes.specs.Lanes.{ones}
+use Rattle.lanes.proofs.GatherLaws.{shift-up, put-is, put-octets, put-fits}
 use Rattle.lanes.proofs.with_bits.Statement.{statement}
 use Rattle.lanes.proofs.with_bits.Tie as tie
 
