@@ -127,7 +127,7 @@ module _ (f : ℕ → ℕ) (d a w : ℕ) (h : d < 8) (e : Eight f a w) where
       ∙ gather-bits (map (λ i. bitOf (f i) d) (count 8 a)) refl
 
   -- and others put in their place
-  pub put-is : (g : ℕ → Bool) → w - bitAnd w (ones * 2 ^ d) + lanes (map (λ i. toN (g i)) (count 8 a)) * 2 ^ d ≡ lanes (map (λ i. putIn (f i) d (toN (g i))) (count 8 a))
+  put-is : (g : ℕ → Bool) → w - bitAnd w (ones * 2 ^ d) + lanes (map (λ i. toN (g i)) (count 8 a)) * 2 ^ d ≡ lanes (map (λ i. putIn (f i) d (toN (g i))) (count 8 a))
   put-is g =
       let was = lanes-same f (λ i. others d (f i) + toN (bitOf (f i) d) * 2 ^ d) (count 8 a) (λ i. others-and d (f i)) in
       let parts = lanes-add (λ i. others d (f i)) (λ i. toN (bitOf (f i) d) * 2 ^ d) (count 8 a) in
@@ -141,12 +141,16 @@ module _ (f : ℕ → ℕ) (d a w : ℕ) (h : d < 8) (e : Eight f a w) where
       without : (n m o t : ℕ) → n ≡ o + t → m ≡ t → n - m ≡ o
       without n m o t p q = omega arith
 
-  pub put-octets : (g : ℕ → Bool) (i : ℕ) → a ≤ i → putIn (f i) d (toN (g i)) < 256
-  put-octets g i l = put-lt d (f i) (toN (g i)) h (e .octets i l) (toN-lt (g i))
+  -- which are eight octets again
+  pub put-eight : (g : ℕ → Bool) (s : ℕ) → s ≤ ones → s ≡ lanes (map (λ i. toN (g i)) (count 8 a))
+      → Eight (λ i. putIn (f i) d (toN (g i))) a (w - bitAnd w (ones * 2 ^ d % 18446744073709551616) + s * 2 ^ d % 18446744073709551616)
+  put-eight g s hs is =
+      rw (shift-up ones d (omega arith) h, shift-up s d hs h)
+      (record { octets = λ i l. put-lt d (f i) (toN (g i)) h (e .octets i l) (toN-lt (g i)); is = rw is (put-is g) })
 
 -- they fit the word: with all bits of the mask it is no more than the word and the mask have together
-pub put-fits : (w s d : ℕ) → w < 2 ^ 64 → s ≤ ones → d < 8 → w - bitAnd w (ones * 2 ^ d) + s * 2 ^ d < 2 ^ 64
+pub put-fits : (w s d : ℕ) → w < 2 ^ 64 → s ≤ ones → d < 8 → w - bitAnd w (ones * 2 ^ d % 18446744073709551616) + s * 2 ^ d % 18446744073709551616 < 2 ^ 64
 put-fits w s d hw hs h =
     let mask = ones * 2 ^ d in
     let fits : ones * 2 ^ d < 2 ^ 64 = rw (sym (shift-up ones d (omega arith) h)) (mod-lt (ones * 2 ^ d) (omega arith)) in
-    omega (arith, or-add-and w mask, or-lt 64 w mask hw fits, mul-le-mul-right (2 ^ d) hs)
+    rw (shift-up ones d (omega arith) h, shift-up s d hs h) (omega (arith, or-add-and w mask, or-lt 64 w mask hw fits, mul-le-mul-right (2 ^ d) hs))
