@@ -73,11 +73,15 @@ pub put-length : (t : List ℕ) (k : ℕ) (bytes : List ℕ) (number : ℕ) (u :
 put-length t k bytes zero u q = ap length (q .left) ∙ length-put t k bytes
 put-length t k bytes (suc number) u q = ap length (q .left)
 
--- take out what was put back, and the channel's bits are those put
-pub put-out : (t : List ℕ) (k : ℕ) (bytes u buffer after : List ℕ) → PutCall t k bytes 0 u → TakeCall u k buffer 0 after → (i : ℕ) → i < length t → bitAt after i ≡ bitAt bytes i
-put-out t k bytes u buffer after q p i l =
+-- take out what was put back: where the bits have room it is not refused, and the channel's bits are those put
+pub put-out : (t : List ℕ) (k : ℕ) (bytes u buffer : List ℕ) (number : ℕ) (after : List ℕ) → PutCall t k bytes 0 u → bytesFor (length t) ≤ length buffer → TakeCall u k buffer number after
+    → (number ≡ 0) × ((i : ℕ) → i < length t → bitAt after i ≡ bitAt bytes i)
+put-out t k bytes u buffer number after q room p =
     let fit = admitted k (length t) (length bytes) (sym (q .answer)) in
-    taken-bits u k buffer after p i (omega (arith, put-length t k bytes 0 u q)) ∙ rw (q .left) (put-bit t k bytes i (fit .from) (fit .to) l)
+    let long = put-length t k bytes 0 u q in
+    let none : number ≡ 0 = p .answer ∙ ap (λ (l : ℕ). refusal k l (length buffer)) long ∙ enough-same k (length t) (length buffer) (length bytes) room (fit .room) ∙ sym (q .answer) in
+    let taken : TakeCall u k buffer 0 after = subst (λ (n : ℕ). TakeCall u k buffer n after) none p in
+    (none, λ i l. taken-bits u k buffer after taken i (omega (arith, long)) ∙ rw (q .left) (put-bit t k bytes i (fit .from) (fit .to) l))
 
 -- the other seven channels are kept bit for bit
 pub others-kept : (t : List ℕ) (k : ℕ) (bytes : List ℕ) (number : ℕ) (u : List ℕ) → PutCall t k bytes number u → (j i : ℕ) → 0 < j → j ≤ 8 → (j ≡ k → ⊥)
