@@ -15,7 +15,7 @@ lanes (x ∷ xs) = lanes xs * 256 + x
 
 -- a one in each of eight octets
 abbrev pub ones : ℕ
-ones = 72340172838076673
+ones = lanes (map (λ _. 1) (count 8 0))
 
 -- the number w is the eight octets f a, f (a + 1), ..
 pub record Eight (f : ℕ → ℕ) (a w : ℕ) : Type 0 where
