@@ -1,5 +1,6 @@
 /* bellrope.h: the frames of one 8 kbit/s channel (3GPP TS 48.061), from bits to records and back.
- * For C99 and later, and C++; x86-64, -lbellrope.
+ * For C99 and later, and C++; x86-64, -lbellrope, or -lbellrope-handheld where flash is short: the
+ * same calls with the same promises, smaller, and slower at small pages.
  *
  * A capture is bytes and a bit count n. Position 0 is the first bit sent, the top bit of the first
  * byte; bits from n on are never looked at. A capture has, with its direction and its profile, one
@@ -38,7 +39,7 @@
 #include <stddef.h>
 #include <stdint.h>
 
-#define BELLROPE_VERSION "0.5"
+#define BELLROPE_VERSION "0.6"
 
 #ifdef __cplusplus
 extern "C" {

@@ -1,12 +1,10 @@
-// The calls of the C front server: the numbers and byte slices of each, handed to the room that does the work, with its promise.
+// The calls of the C front server: the numbers and byte slices of each, handed to the room that does the work, with its promise. The table of D places is
+// lent to it.
 ghost use Rattle.paging.specs.Paging.{PageCall};
 ghost use Rattle.writing.specs.Writing.{WriteCall};
 ghost use Rattle.timeslot.specs.Timeslot.{TakeCall, PutCall};
+ghost use Rattle.call.specs.Call.{pageRequest, writeRequest};
 use call::Answer;
-use call::CursorNumbers;
-use call::PageRequest;
-use call::TermNumbers;
-use call::WriteRequest;
 
 // A page of records from a cursor: the longest leading part of the reading that keeps to the count and fits the buffer; items, bytes, and the cursor
 // moved on.
@@ -21,30 +19,11 @@ pub extern "C" fn bellrope_page(
     most: u64,
     buffer: &mut [u8],
 ) -> Answer
-    ensures { λ r.
-        ⌜ PageCall
-        (now (capture .entry))
-        (record { n = n; terms = record { direction = direction; profile = profile }; cursor = record { position = position; context = context }; most = most })
-        (now (buffer .entry))
-        r
-        (now (buffer .exit)) ⌝ }
+    ensures { λ r. ⌜ PageCall (now (capture .entry)) (pageRequest n direction profile position context most) (now (buffer .entry)) r (now (buffer .exit)) ⌝ }
 {
-    paging::page(
-        capture,
-        PageRequest {
-            n: n,
-            terms: TermNumbers {
-                direction: direction,
-                profile: profile,
-            },
-            cursor: CursorNumbers {
-                position: position,
-                context: context,
-            },
-            most: most,
-        },
-        buffer,
-    )
+    let table = dplaces::table();
+    let request = call::page_request(n, direction, profile, position, context, most);
+    paging::page(capture, request, &table, buffer)
 }
 
 // Records back to bits, from the cursor's position on: body and tail bits are put, other bits keep their value; items and the cursor after.
@@ -57,28 +36,11 @@ pub extern "C" fn bellrope_write(
     context: u64,
     buffer: &mut [u8],
 ) -> Answer
-    ensures { λ r.
-        ⌜ WriteCall
-        (now (records .entry))
-        (record { terms = record { direction = direction; profile = profile }; cursor = record { position = position; context = context } })
-        (now (buffer .entry))
-        r
-        (now (buffer .exit)) ⌝ }
+    ensures { λ r. ⌜ WriteCall (now (records .entry)) (writeRequest direction profile position context) (now (buffer .entry)) r (now (buffer .exit)) ⌝ }
 {
-    writing::write(
-        records,
-        WriteRequest {
-            terms: TermNumbers {
-                direction: direction,
-                profile: profile,
-            },
-            cursor: CursorNumbers {
-                position: position,
-                context: context,
-            },
-        },
-        buffer,
-    )
+    let table = dplaces::table();
+    let request = call::write_request(direction, profile, position, context);
+    writing::write(records, request, &table, buffer)
 }
 
 // A channel of a timeslot taken out into the front of a buffer, whose rest is kept: the number alone.

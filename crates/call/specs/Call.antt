@@ -10,7 +10,17 @@ use Rattle.channel.specs.declared.Terms.{Terms}
 use Rattle.channel.specs.Verdict.{Context}
 use Rattle.call.specs.declared.TermNumbers.{TermNumbers}
 use Rattle.call.specs.declared.CursorNumbers.{CursorNumbers}
+use Rattle.call.specs.declared.PageRequest.{PageRequest}
+use Rattle.call.specs.declared.WriteRequest.{WriteRequest}
 use Rattle.call.specs.declared.Answer.{Answer}
+
+-- what is asked of a page, by the numbers of the call: n, direction, profile, position, context, most
+abbrev pub pageRequest : ℕ → ℕ → ℕ → ℕ → ℕ → ℕ → PageRequest
+pageRequest n d f p x m = record { n = n; terms = record { direction = d; profile = f }; cursor = record { position = p; context = x }; most = m }
+
+-- what is asked of writing, by the numbers of the call: direction, profile, position, context
+abbrev pub writeRequest : ℕ → ℕ → ℕ → ℕ → WriteRequest
+writeRequest d f p x = record { terms = record { direction = d; profile = f }; cursor = record { position = p; context = x } }
 
 -- direction: 0 uplink, 1 downlink
 abbrev pub directionOf : ℕ → Direction

@@ -1,6 +1,6 @@
 // What a call brings as numbers, and what it answers. The numbers are any there can be: each call judges them.
 ghost use mathlib.Core.Path.{_≡_};
-ghost use Rattle.call.specs.Call.{termsBy, next, refusedAt};
+ghost use Rattle.call.specs.Call.{pageRequest, writeRequest, termsBy, next, refusedAt};
 use channel::Direction;
 use channel::Terms;
 
@@ -28,6 +28,47 @@ pub struct PageRequest {
 pub struct WriteRequest {
     pub terms: TermNumbers,
     pub cursor: CursorNumbers,
+}
+
+// What is asked of a page, by the numbers of the call.
+pub fn page_request(
+    n: u64,
+    direction: u64,
+    profile: u8,
+    position: u64,
+    context: u64,
+    most: u64,
+) -> PageRequest
+    ensures { λ r. ⌜ r ≡ pageRequest n direction profile position context most ⌝ }
+{
+    PageRequest {
+        n: n,
+        terms: TermNumbers {
+            direction: direction,
+            profile: profile,
+        },
+        cursor: CursorNumbers {
+            position: position,
+            context: context,
+        },
+        most: most,
+    }
+}
+
+// What is asked of writing, by the numbers of the call.
+pub fn write_request(direction: u64, profile: u8, position: u64, context: u64) -> WriteRequest
+    ensures { λ r. ⌜ r ≡ writeRequest direction profile position context ⌝ }
+{
+    WriteRequest {
+        terms: TermNumbers {
+            direction: direction,
+            profile: profile,
+        },
+        cursor: CursorNumbers {
+            position: position,
+            context: context,
+        },
+    }
 }
 
 // What a call answers: its number (0, or that of the refusal), the index of the record refused, the items and bytes, and the cursor moved on.

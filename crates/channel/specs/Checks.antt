@@ -2,17 +2,17 @@
 -- A check is the list of the places that a CRC covers, in listed order, and then the CRC's own three. Assumes nothing.
 use mathlib.Core.Bool.{cond}
 use mathlib.Core.List.{List, [], _∷_, _++_, map}
-use Prim.Native.Nat.{ℕ, _+_, _-_}
+use Prim.Native.Nat.{ℕ, _+_}
 use lib.Dec.{ltb}
 use lib.ListN.{getD}
 use Rattle.channel.specs.declared.Pattern.the-variants.{Low, P670, P740}
 use Rattle.channel.specs.declared.Kind.{Kind}
 use Rattle.channel.specs.declared.Kind.the-variants.{Speech, Data, Om, Configuration, NoSpeech, Lower, Amr670, Amr740}
-use Rattle.channel.specs.Places.{upto, cPlaces, crcPlaces, dPlaces}
+use Rattle.channel.specs.Places.{upto, cPlaces, crcPlaces, dPlace}
 
 -- the places of D bits by their numbers, from 1
 abbrev pub d : Kind → List ℕ → List ℕ
-d k is = map (λ (i : ℕ). getD (dPlaces k) (i - 1) 0) is
+d k is = map (dPlace k) is
 
 -- the D number of s number i (5.2.4.2.2). 4,75: s1..s48 are D4..D51, s49.. D60.., s62.. D76.., s83.. D100..
 abbrev pub s475 : ℕ → ℕ

@@ -4,6 +4,7 @@ use mathlib.Core.Bool.{Bool, true, false, cond}
 use mathlib.Core.List.{List, [], _∷_, _++_, map}
 use Prim.Native.Nat.{ℕ, suc, _+_, _*_, _-_}
 use lib.Dec.{eqb}
+use lib.ListN.{getD}
 use Rattle.bits.specs.Bit.{count}
 use Rattle.channel.specs.declared.Pattern.{Pattern}
 use Rattle.channel.specs.declared.Pattern.the-variants.{Hr, Low, P670, P740}
@@ -88,3 +89,7 @@ without ts (i ∷ is) = let r = without ts is in cond (elem i ts) r (i ∷ r)
 -- the places of the D bits: they fill the remaining places of the body in order
 unfoldable pub dPlaces : Kind → List ℕ
 dPlaces k = without (taken k) (upto 0 (bodyOf k - 1))
+
+-- the place of a D bit by its number, from 1
+abbrev pub dPlace : Kind → ℕ → ℕ
+dPlace k i = getD (dPlaces k) (i - 1) 0

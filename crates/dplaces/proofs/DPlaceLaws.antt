@@ -1,6 +1,7 @@
 -- The table of D bits against the rule of each kind.
 -- Assumes nothing.
-use mathlib.Core.Path.{_≡_, refl}
+use mathlib.Core.Path.{_≡_, refl, sym, _∙_, ap}
+use mathlib.Core.Logic.{inl, inr}
 use mathlib.Core.Bool.{Bool, true, false, cond}
 use mathlib.Core.List.{List, [], _∷_}
 use Prim.Native.Nat.{ℕ, zero, suc, _+_, _-_, _<_, _≤_}
@@ -8,7 +9,8 @@ use native.Mathlib.Omega.{arith}
 use native.Mathlib.Nat.{not-suc-le-zero, le-of-suc-le-suc}
 use borrow.Author.Tests.{eq-eqb}
 use lib.Dec.{eqb, lit<}
-use lib.ListN.{length, getD, take, drop}
+use lib.ListN.{length, getD, take, drop, length-drop}
+use lib.Seq.{getD-take, getD-drop, ext-getD, length-take-le}
 use Rattle.channel.specs.declared.Kind.{Kind}
 use Rattle.channel.specs.declared.Kind.the-variants.{Speech, Data, Om, Configuration, NoSpeech, Lower, Amr670, Amr740}
 use Rattle.channel.specs.Kinds.{dCount}
@@ -16,7 +18,7 @@ use Rattle.channel.specs.Places.{elem, dPlaces}
 use Rattle.channel.proofs.FrameLaws.{body-high}
 use Rattle.channel.proofs.DLaws.{Rule, d-rule}
 use Rattle.fields.specs.Below.{Below}
-use Rattle.dplaces.specs.DPlaces.{allPlaces, dFrom}
+use Rattle.dplaces.specs.DPlaces.{allPlaces, dFrom, Lent}
 
 -- a kind's part of the table is the list of its D places
 d-part : (k : Kind) → take (dCount k) (drop (dFrom k) allPlaces) ≡ dPlaces k
@@ -93,8 +95,31 @@ places-below k j h =
     let f = d-rule k .free (getD (dPlaces k) j 0) (entry-elem (dPlaces k) j h) in
     omega (arith, body-high k)
 
--- the part of the table that is lent for a kind
-pub part-is : (k : Kind) (places : List ℕ) (from n : ℕ) → places ≡ allPlaces → from ≡ dFrom k → n ≡ dCount k → take (from + n - from) (drop from places) ≡ dPlaces k
-part-is k places from n p f c =
+-- the part of the table that is a kind's
+pub kind-part : (k : Kind) (places : List ℕ) (from n : ℕ) → places ≡ allPlaces → from ≡ dFrom k → n ≡ dCount k → take (from + n - from) (drop from places) ≡ dPlaces k
+kind-part k places from n p f c =
     let e : from + n - from ≡ n = omega arith in
     rw (e, p, f, c) (d-part k)
+
+-- what is lent, if it is anything, is the table
+pub lent-table : (places : List ℕ) → Lent places → (length places ≡ 0 → ⊥) → places ≡ allPlaces
+lent-table places (inl none) some = absurd (some (ap length none))
+lent-table places (inr all) some = all
+
+-- n places of a kind behind the first a, found in the table
+pub part-is : (k : Kind) (places : List ℕ) (a n : ℕ) → places ≡ allPlaces → a + n ≤ dCount k → take n (drop (dFrom k + a) places) ≡ take n (drop a (dPlaces k))
+part-is k places a n table h =
+    rw table
+    (ext-getD 0 (take n (drop (dFrom k + a) allPlaces)) (take n (drop a (dPlaces k))) (long ∙ sym (length-take-le n (drop a (dPlaces k)) (omega (arith, length-drop a (dPlaces k), d-length k))))
+    (λ j l. found j (omega (arith, long))))
+  where
+    long : length (take n (drop (dFrom k + a) allPlaces)) ≡ n
+    long = length-take-le n (drop (dFrom k + a) allPlaces) (omega (arith, length-drop (dFrom k + a) allPlaces, all-length, part-end k))
+
+    found : (j : ℕ) → j < n → getD (take n (drop (dFrom k + a) allPlaces)) j 0 ≡ getD (take n (drop a (dPlaces k))) j 0
+    found j l =
+        let e : dFrom k + a + j ≡ dFrom k + (a + j) = omega arith in
+        getD-take n (drop (dFrom k + a) allPlaces) j 0 l ∙ getD-drop (dFrom k + a) allPlaces j 0 ∙ ap (λ (i : ℕ). getD allPlaces i 0) e
+        ∙ sym (getD-take (dCount k) (drop (dFrom k) allPlaces) (a + j) 0 (omega arith) ∙ getD-drop (dFrom k) allPlaces (a + j) 0)
+        ∙ ap (λ (ps : List ℕ). getD ps (a + j) 0) (d-part k)
+        ∙ sym (getD-take n (drop a (dPlaces k)) j 0 l ∙ getD-drop a (dPlaces k) j 0)

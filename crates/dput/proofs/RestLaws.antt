@@ -52,10 +52,10 @@ byte-front d i k =
     let b : (8 * i + k) % 8 ≡ k % 8 = omega arith in
     rw (a, b, getD-drop i d (k / 8) 0)
 
--- the entries of a plan put their bytes back, but for the odd one
-pub plan-back : (ps plan : List ℕ) (base from to : ℕ) → PlanOf ps plan base → length ps ≤ 151 → getD plan (base + 57) 0 ≤ (length ps + 7) / 8 + 1 → to ≤ (length ps + 7) / 8
-    → ((j : ℕ) → from ≤ j → j < to → j + 2 ≡ getD plan (base + 57) 0 → ⊥) → BackFrom ps plan base from to
-plan-back ps plan base from to p short few l other j a b = p .entries j (omega arith) .put-back (p .odd (omega arith) j (omega arith) (other j a b))
+-- the entries of a plan put their bytes back, but for those that they may not make
+pub plan-back : (ps plan : List ℕ) (base from to : ℕ) → PlanOf ps plan base → to ≤ (length ps + 7) / 8
+    → ((j : ℕ) → from ≤ j → j < to → getD plan (base + 57) 0 % 32 ≤ j → j < getD plan (base + 57) 0 / 32 → ⊥) → BackFrom ps plan base from to
+plan-back ps plan base from to p l other j a b = p .entries j (omega arith) .put-back (p .others j (omega arith) (other j a b))
 
 -- nothing is left behind the last byte
 pub rest-all : (ps d o r : List ℕ) (n : ℕ) → length ps ≤ 8 * n → Rest ps d 0 o n r → r ≡ putPlaces o ps (bitAt d) 0

@@ -7,10 +7,10 @@ ghost use lib.ListN.{length, getD};
 ghost use Rattle.bits.specs.Bit.{bitAt};
 ghost use Rattle.channel.specs.Kinds.{dCount};
 ghost use Rattle.channel.specs.Places.{dPlaces};
-ghost use Rattle.fields.specs.Below.{Below};
 ghost use Rattle.scatter.specs.Scatter.{putPlaces};
+ghost use Rattle.dplaces.specs.DPlaces.{Lent};
 ghost use Rattle.entries.specs.Entry.{back};
-ghost use Rattle.plans.specs.Plan.{PlanOf, Made};
+ghost use Rattle.plans.specs.Plan.{Made};
 ghost use Rattle.dput.specs.Back.{BackFrom, Rest};
 
 // A byte put back by an entry of the plan, into two neighbouring octets.
@@ -40,43 +40,41 @@ fn by_plan(o: &mut [u8], plan: &[u32], base: usize, d: &[u8], from: usize, to: u
     }
 }
 
-// D byte i at its places, whatever they are.
-fn with_byte(o: [u8; 20], part: &[u8], d: &[u8], i: usize) -> [u8; 20]
-    requires { ⌜ Below 160 (now part) × (length (now part) ≤ 151) × (length (now part) ≤ 8 * length (now d)) × (i < (length (now part) + 7) / 8) ⌝ }
-    ensures { λ r. ⌜ Rest (now (part .entry)) (now (d .entry)) i o (i + 1) r ⌝ }
+// D byte i of a kind at its places, whatever they are.
+fn with_byte(o: [u8; 20], table: &[u8], k: Kind, d: &[u8], i: usize) -> [u8; 20]
+    requires { ⌜ Lent (now table) × (dCount k ≤ 8 * length (now d)) × (8 * i < dCount k) ⌝ }
+    ensures { λ r. ⌜ Rest (dPlaces k) (now (d .entry)) i o (i + 1) r ⌝ }
 {
-    let end = scatter::byte_end(part, i);
-    scatter::at_places(o, &part[8 * i..end], &d[i..])
+    eights::put(o, table, k, i, &d[i..])
 }
 
-// The D bytes at the places of a part of the table, by the plan of that part: the one byte that is not two runs by itself, and all where there are more.
-fn with_part(o: [u8; 20], part: &[u8], d: &[u8], plan: &[u32], base: usize) -> [u8; 20]
-    requires { ⌜ Below 160 (now part) × (length (now part) ≤ 151) × (length (now part) ≤ 8 * length (now d)) × (base ≤ 406) × (base + 58 ≤ length (now plan)) × PlanOf (now part) (now plan) base ⌝ }
-    ensures { λ r. ⌜ r ≡ putPlaces o (now (part .entry)) (bitAt (now (d .entry))) 0 ⌝ }
+// The D bytes of a kind from number `from` on, up to `to`, at their places, one by one.
+fn with_bytes(o: [u8; 20], table: &[u8], k: Kind, d: &[u8], from: usize, to: usize) -> [u8; 20]
+    requires { ⌜ Lent (now table) × (dCount k ≤ 8 * length (now d)) × (from ≤ to) × (to ≤ (dCount k + 7) / 8) ⌝ }
+    ensures { λ r. ⌜ Rest (dPlaces k) (now (d .entry)) from o to r ⌝ }
 {
-    let n = (part.len() + 7) / 8;
-    let odd = plan[base + 57] as usize;
-    if n + 1 < odd {
-        return scatter::at_places(o, part, d);
-    }
     let mut octets = o;
-    if odd < 2 {
-        by_plan(&mut octets, plan, base, d, 0, n);
-        return octets;
+    for i in from..to {
+        let next = with_byte(octets, table, k, d, i);
+        octets = next;
     }
-    let i = odd - 2;
-    by_plan(&mut octets, plan, base, d, 0, i);
-    octets = with_byte(octets, part, d, i);
-    by_plan(&mut octets, plan, base, d, i + 1, n);
     octets
 }
 
-// The way back: the D bits of a kind at their places, from bytes that have them from the top bit down.
+// The way back: the D bits of a kind at their places, from bytes that have them from the top bit down: by the plan of the kind, but for the bytes that are
+// not two runs, which are put bit by bit.
 pub fn with_d(o: [u8; 20], k: Kind, d: &[u8], table: &[u8], plan: &[u32]) -> [u8; 20]
     requires { ⌜ (dCount k ≤ 8 * length (now d)) × Made (now table) (now plan) k ⌝ }
     ensures { λ r. ⌜ r ≡ putPlaces o (dPlaces k) (bitAt (now (d .entry))) 0 ⌝ }
 {
-    let from = dplaces::d_from(k);
-    let to = from + dplaces::d_count(k);
-    with_part(o, &table[from..to], d, plan, plans::plan_from(k))
+    let n = (dplaces::d_count(k) + 7) / 8;
+    let base = plans::plan_from(k);
+    let odd = plan[base + 57] as usize;
+    let from = odd % 32;
+    let to = odd / 32;
+    let mut octets = o;
+    by_plan(&mut octets, plan, base, d, 0, from);
+    octets = with_bytes(octets, table, k, d, from, to);
+    by_plan(&mut octets, plan, base, d, to, n);
+    octets
 }

@@ -14,6 +14,7 @@ fn list(capture: &[u8], direction: u8, out: &mut [u8]) -> usize
     ensures { λ r. ⌜ Listed (Text (now (capture .entry)) direction) (now (out .entry)) (now (out .exit)) r ⌝ }
 {
     let n = 8 * capture.len() as u64;
+    let table = dplaces::table();
     let mut buffer = [0u8; 4096];
     let mut cursor = CursorNumbers {
         position: 0,
@@ -32,6 +33,7 @@ fn list(capture: &[u8], direction: u8, out: &mut [u8]) -> usize
                 cursor: cursor,
                 most: 4096,
             },
+            &table,
             &mut buffer,
         );
         if answer.number != 0 {

@@ -2,6 +2,7 @@
 ghost use mathlib.Core.Path.{_≡_};
 ghost use mathlib.Core.Bool.{_&&_};
 ghost use lib.Dec.{eqb, ltb};
+ghost use Rattle.dplaces.specs.DPlaces.{Lent};
 ghost use Rattle.item.specs.Item.{cursorOf};
 ghost use Rattle.paging.specs.Paging.{PageCall};
 ghost use Rattle.paging.specs.Answered.{answerOf};
@@ -42,7 +43,8 @@ fn answer(r: PageRequest, page: Counted) -> Answer
 
 // A page of records from a cursor: the longest leading part of the reading that keeps to the count and fits the buffer; items, bytes, and the cursor
 // moved on.
-pub fn page(capture: &[u8], r: PageRequest, buffer: &mut [u8]) -> Answer
+pub fn page(capture: &[u8], r: PageRequest, table: &[u8], buffer: &mut [u8]) -> Answer
+    requires { ⌜ Lent (now table) ⌝ }
     ensures { λ a. ⌜ PageCall (now (capture .entry)) r (now (buffer .entry)) a (now (buffer .exit)) ⌝ }
 {
     let number = refusal::page(capture.len(), r);
@@ -60,6 +62,7 @@ pub fn page(capture: &[u8], r: PageRequest, buffer: &mut [u8]) -> Answer
         call::terms_of(r.terms),
         c,
         r.most,
+        table,
         buffer,
     );
     answer(r, page)

@@ -1,4 +1,4 @@
--- A plan of the table of D bits: the entry of each byte of D bits.
+-- A plan of the D bits: the entry of each byte of them.
 -- Assumes nothing.
 use mathlib.Core.Path.{_≡_}
 use mathlib.Core.List.{List}
@@ -9,7 +9,7 @@ use lib.ListN.{length, getD, take, drop}
 use Rattle.channel.specs.declared.Kind.{Kind}
 use Rattle.channel.specs.Kinds.{kindNo}
 use Rattle.channel.specs.Places.{dPlaces}
-use Rattle.dplaces.specs.DPlaces.{allPlaces}
+use Rattle.dplaces.specs.DPlaces.{Lent}
 use Rattle.entries.specs.Entry.{quick, EntryBy}
 
 -- an entry of a plan, by its three numbers
@@ -23,32 +23,34 @@ quickAt o plan at = quick o (getD plan at 0) (getD plan (at + 1) 0) (getD plan (
 abbrev pub SmallAt : List ℕ → ℕ → Type 0
 SmallAt plan at = (getD plan at 0 % 256 < 19) × (getD plan (at + 1) 0 ≤ 32768) × (getD plan (at + 2) 0 ≤ 32768)
 
--- which byte is not two runs, from 2 on, once byte j is looked at: 1 for none, 21 for more than one
-abbrev pub oddOne : ℕ → ℕ → ℕ → ℕ
-oddOne odd j f = cond (eqb f 1) (cond (eqb odd 1) (j + 2) 21) odd
+-- the bytes from the first on that is not two runs to the last, once byte j is looked at: the first, and 32 times the one behind the last; 33 for none
+abbrev pub oddBytes : ℕ → ℕ → ℕ → ℕ
+oddBytes odd j f = cond (eqb f 1) (cond (eqb odd 33) (32 * (j + 1) + j) (32 * (j + 1) + odd % 32)) odd
 
--- the entries of some places, eight by eight, and which of them makes no claim
+-- the entries of some places, eight by eight; the bytes that they may not make stand between two numbers
 pub record PlanOf (ps plan : List ℕ) (base : ℕ) : Type 0 where
   pub entries : (j : ℕ) → j < (length ps + 7) / 8 → EntryAt (take 8 (drop (8 * j) ps)) plan (base + 3 * j)
-  pub odd : getD plan (base + 57) 0 < 21 → (j : ℕ) → j < (length ps + 7) / 8 → (j + 2 ≡ getD plan (base + 57) 0 → ⊥) → getD plan (base + 3 * j + 1) 0 ≡ 1 → ⊥
+  pub from-to : getD plan (base + 57) 0 % 32 ≤ getD plan (base + 57) 0 / 32
+  pub within : getD plan (base + 57) 0 / 32 ≤ (length ps + 7) / 8
+  pub others : (j : ℕ) → j < (length ps + 7) / 8 → (getD plan (base + 57) 0 % 32 ≤ j → j < getD plan (base + 57) 0 / 32 → ⊥) → getD plan (base + 3 * j + 1) 0 ≡ 1 → ⊥
 
 -- where a kind's part of the plan begins
 abbrev pub planFrom : Kind → ℕ
 planFrom k = 58 * (kindNo k - 1)
 
--- the number of a kind's odd byte; 0 where the plan of the kind is not made
+-- the number of a kind's odd bytes; 0 where the plan of the kind is not made
 abbrev pub oddOf : List ℕ → Kind → ℕ
 oddOf plan k = getD plan (planFrom k + 57) 0
 
--- the table, and the plan of a kind
+-- what is lent of the table, and the plan of a kind
 pub record Made (places plan : List ℕ) (k : Kind) : Type 0 where
-  pub table : places ≡ allPlaces
+  pub lent : Lent places
   pub size : length plan ≡ 464
   pub made : PlanOf (dPlaces k) plan (planFrom k)
 
--- the table, and the plans of the kinds that are made
+-- what is lent of the table, and the plans of the kinds that are made
 pub record Plans (places plan : List ℕ) : Type 0 where
-  pub table : places ≡ allPlaces
+  pub lent : Lent places
   pub size : length plan ≡ 464
   pub each : (k : Kind) → (oddOf plan k ≡ 0 → ⊥) → PlanOf (dPlaces k) plan (planFrom k)
 

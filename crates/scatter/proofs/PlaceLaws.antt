@@ -1,40 +1,19 @@
 -- What each bit is after bits were put at places.
 -- Assumes nothing.
 use mathlib.Core.Path.{_≡_, refl, ap, sym, _∙_}
-use mathlib.Core.Logic.{by-cases}
 use mathlib.Core.Bool.{Bool}
 use mathlib.Core.List.{List, [], _∷_, _++_, map}
-use Prim.Native.Nat.{ℕ, zero, suc, _+_, _*_, _-_, _<_, _≤_}
+use Prim.Native.Nat.{ℕ, zero, suc, _+_, _*_, _<_, _≤_}
 use native.Mathlib.Nat.{add-zero}
 use native.Mathlib.Numerals.{add-one}
-use native.Mathlib.Decide.{decLt}
 use native.Mathlib.Omega.{arith}
 use lib.ListN.{length, getD, take, drop, length-take, length-drop, drop-of-length-le}
-use lib.Seq.{take-all, getD-take, getD-drop}
+use lib.Seq.{getD-take, getD-drop}
 use Rattle.bits.specs.Bit.{bitAt, count}
 use Rattle.bits.specs.Put.{putBit, putBits}
 use Rattle.fields.specs.Below.{Below}
 use Rattle.put.proofs.PutLaws.{put-at, length-put, own-kept}
 use Rattle.scatter.specs.Scatter.{putPlaces}
-
--- the places of a byte, by where they begin and end
-pub eight-part : (ps : List ℕ) (j b e : ℕ) → b ≡ length ps - (length ps - 8 * j) → e ≡ length ps - (length ps - (8 * j + 8)) → take (e - b) (drop b ps) ≡ take 8 (drop (8 * j) ps)
-eight-part ps j b e g h =
-    by-cases (decLt (length ps) (8 * j))
-    (λ (l : length ps < 8 * j).
-    let n : b ≡ length ps = omega arith in
-    rw (n, drop-of-length-le ps {i = length ps} (omega arith), drop-of-length-le ps {i = 8 * j} (omega arith)) (none (e - length ps)))
-    (λ (l : ¬ (length ps < 8 * j)).
-    let n : b ≡ 8 * j = omega arith in
-    rw n
-    (by-cases (decLt (length ps) (8 * j + 8))
-    (λ (l : length ps < 8 * j + 8).
-    take-all (e - 8 * j) (drop (8 * j) ps) (omega (arith, length-drop (8 * j) ps)) ∙ sym (take-all 8 (drop (8 * j) ps) (omega (arith, length-drop (8 * j) ps))))
-    (λ (l : ¬ (length ps < 8 * j + 8)). let n : e - 8 * j ≡ 8 = omega arith in rw n)))
-  where
-    none : (n : ℕ) → take {A = ℕ} n [] ≡ take {A = ℕ} 8 []
-    none zero = refl
-    none (suc n) = refl
 
 -- a part of places that lie in a frame
 pub part-below : (ps : List ℕ) (a n : ℕ) → Below 160 ps → Below 160 (take n (drop a ps))

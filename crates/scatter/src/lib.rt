@@ -13,14 +13,6 @@ pub fn least(a: usize, b: usize) -> usize
     if a < b { a } else { b }
 }
 
-// Where the places of byte j end.
-pub fn byte_end(part: &[u8], j: usize) -> usize
-    requires { ⌜ j < 19 ⌝ }
-    ensures { λ r. ⌜ r ≡ length (now (part .entry)) - (length (now (part .entry)) - (8 * j + 8)) ⌝ }
-{
-    least(part.len(), 8 * j + 8)
-}
-
 // How many places from number j on follow each other in one octet and get bits of one byte.
 fn run_at(places: &[u8], j: usize) -> usize
     requires { ⌜ j < length (now places) ⌝ }

@@ -1,11 +1,13 @@
 // Writing: records back to bits. All of them are judged before the first bit is put, so that a refusal leaves the buffer as it was.
+ghost use Rattle.dplaces.specs.DPlaces.{Lent};
 ghost use Rattle.writing.specs.Writing.{WriteCall};
 use call::Answer;
 use call::WriteRequest;
 use item::Cursor;
 
 // Records back to bits, from the cursor's position on: body and tail bits are put, other bits keep their value; items and the cursor after.
-pub fn write(records: &[u8], r: WriteRequest, buffer: &mut [u8]) -> Answer
+pub fn write(records: &[u8], r: WriteRequest, table: &[u8], buffer: &mut [u8]) -> Answer
+    requires { ⌜ Lent (now table) ⌝ }
     ensures { λ a. ⌜ WriteCall (now (records .entry)) r (now (buffer .entry)) a (now (buffer .exit)) ⌝ }
 {
     let number = refusal::write(records.len(), r, buffer.len());
@@ -18,7 +20,6 @@ pub fn write(records: &[u8], r: WriteRequest, buffer: &mut [u8]) -> Answer
         context: cursor.context as u8,
     };
     let mut masks = masks::no_masks();
-    let table = dplaces::table();
     let mut plan = plans::no_plans();
     let judged = taking::judge_all(
         records,
@@ -26,13 +27,13 @@ pub fn write(records: &[u8], r: WriteRequest, buffer: &mut [u8]) -> Answer
         c,
         8 * buffer.len(),
         &mut masks,
-        &table,
+        table,
         &mut plan,
     );
     if judged.number != 0 {
         return call::refuse(judged.number, judged.items, r.cursor);
     }
-    putting::put_all(records, &table, &mut plan, buffer);
+    putting::put_all(records, table, &mut plan, buffer);
     let to = judged.cursor;
     Answer {
         number: 0,

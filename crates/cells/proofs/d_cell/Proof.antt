@@ -5,7 +5,7 @@ use native.Mathlib.Omega.{arith}
 use borrow.Author.Needs.{needs}
 use lib.ListN.{length}
 use Rattle.channel.specs.Places.{dPlaces}
-use Rattle.dplaces.proofs.DPlaceLaws.{part-end, part-is, d-length, d-count-le}
+use Rattle.dplaces.proofs.DPlaceLaws.{part-end, kind-part, d-length, d-count-le}
 use Rattle.cells.specs.Cells.{indexOf, dName}
 use Rattle.cells.proofs.CellLaws.{named-in, named-out}
 use Rattle.cells.proofs.d_cell.Statement.{statement}
@@ -29,7 +29,7 @@ returns c =
     let f = c .before .before .before .before .before .before .d-from in
     let n = c .before .before .before .before .before .d-count in
     let i = c .before .before .index-in in
-    let part = part-is k (t .result) (f .result) (n .result) (t .ensures) (f .ensures) (n .ensures) in
+    let part = kind-part k (t .result) (f .result) (n .result) (t .ensures) (f .ensures) (n .ensures) in
     let found = i .ensures ∙ ap (indexOf (c .before .before .before .before .before .before .before .before .args .p)) part in
     c .d-name .ensures ∙ sym (named-in (dPlaces k) (dName k) (c .before .before .before .before .before .before .before .before .args .p) (i .result) (c .before .before .before .before .before .before .before .before .args .other) found (omega (arith, d-length k)))
 
@@ -40,7 +40,7 @@ returns-2 c =
     let f = c .before .before .before .before .before .d-from in
     let n = c .before .before .before .before .d-count in
     let i = c .before .index-in in
-    let part = part-is k (t .result) (f .result) (n .result) (t .ensures) (f .ensures) (n .ensures) in
+    let part = kind-part k (t .result) (f .result) (n .result) (t .ensures) (f .ensures) (n .ensures) in
     let found = i .ensures ∙ ap (indexOf (c .before .before .before .before .before .before .before .args .p)) part in
     sym (named-out (dPlaces k) (dName k) (c .before .before .before .before .before .before .before .args .p) (i .result) (c .before .before .before .before .before .before .before .args .other) found (omega (arith, d-length k)))
 

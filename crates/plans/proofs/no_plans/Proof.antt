@@ -6,7 +6,7 @@ use Rattle.plans.proofs.no_plans.Statement.{statement}
 use Rattle.plans.proofs.no_plans.Tie as tie
 
 returns : tie.Need-returns
-returns c = plans-none _ _ refl refl zeros-none
+returns c = λ places lent. plans-none places _ lent refl zeros-none
 
 pub no-plans-spec : {M : Type 1} → statement M
 no-plans-spec = tie.close (tie.spec returns)

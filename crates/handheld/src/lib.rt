@@ -1,0 +1,59 @@
+// The same calls for the handheld probe, with the same promises: no table is lent, so the places of D bits are worked out.
+ghost use Rattle.paging.specs.Paging.{PageCall};
+ghost use Rattle.writing.specs.Writing.{WriteCall};
+ghost use Rattle.timeslot.specs.Timeslot.{TakeCall, PutCall};
+ghost use Rattle.call.specs.Call.{pageRequest, writeRequest};
+use call::Answer;
+
+// A page of records from a cursor: the longest leading part of the reading that keeps to the count and fits the buffer; items, bytes, and the cursor
+// moved on.
+#[no_mangle]
+pub extern "C" fn bellrope_page(
+    capture: &[u8],
+    n: u64,
+    direction: u64,
+    profile: u8,
+    position: u64,
+    context: u64,
+    most: u64,
+    buffer: &mut [u8],
+) -> Answer
+    ensures { λ r. ⌜ PageCall (now (capture .entry)) (pageRequest n direction profile position context most) (now (buffer .entry)) r (now (buffer .exit)) ⌝ }
+{
+    let none = [0u8; 0];
+    let request = call::page_request(n, direction, profile, position, context, most);
+    paging::page(capture, request, &none, buffer)
+}
+
+// Records back to bits, from the cursor's position on: body and tail bits are put, other bits keep their value; items and the cursor after.
+#[no_mangle]
+pub extern "C" fn bellrope_write(
+    records: &[u8],
+    direction: u64,
+    profile: u8,
+    position: u64,
+    context: u64,
+    buffer: &mut [u8],
+) -> Answer
+    ensures { λ r. ⌜ WriteCall (now (records .entry)) (writeRequest direction profile position context) (now (buffer .entry)) r (now (buffer .exit)) ⌝ }
+{
+    let none = [0u8; 0];
+    let request = call::write_request(direction, profile, position, context);
+    writing::write(records, request, &none, buffer)
+}
+
+// A channel of a timeslot taken out into the front of a buffer, whose rest is kept: the number alone.
+#[no_mangle]
+pub extern "C" fn bellrope_take_channel(timeslot: &[u8], channel: u64, buffer: &mut [u8]) -> u64
+    ensures { λ r. ⌜ TakeCall (now (timeslot .entry)) channel (now (buffer .entry)) r (now (buffer .exit)) ⌝ }
+{
+    timeslot::take(timeslot, channel, buffer)
+}
+
+// A channel of a timeslot put back, the other seven kept: the number alone.
+#[no_mangle]
+pub extern "C" fn bellrope_put_channel(timeslot: &mut [u8], channel: u64, bytes: &[u8]) -> u64
+    ensures { λ r. ⌜ PutCall (now (timeslot .entry)) channel (now (bytes .entry)) r (now (timeslot .exit)) ⌝ }
+{
+    timeslot::put(timeslot, channel, bytes)
+}
