@@ -1,4 +1,4 @@
-// The place of a D bit worked out from its number, which the table of D places would give too.
+// The place of a D bit worked out from its number (document 02, Ask 4), which the table of D places would give too.
 use channel::Kind;
 ghost use mathlib.Core.Path.{_≡_};
 ghost use mathlib.Core.List.{_++_};
@@ -9,7 +9,7 @@ ghost use Rattle.channel.specs.Kinds.{dCount};
 ghost use Rattle.channel.specs.Places.{dPlace};
 ghost use Rattle.placing.specs.Eight.{sizeOf, eightOf};
 
-// Kind 1: D1 stands behind XC6 in octet 3, and seven D bits behind bit 1 of each octet from 4 on, but for octet 10, which has the CRC too.
+// Kind 1 (5.2.1.1): D1 stands behind XC6 in octet 3, and seven D bits behind bit 1 of each octet from 4 on, but for octet 10, which has the CRC too.
 fn speech_place(d: usize) -> usize
     requires { ⌜ (1 ≤ d) × (d ≤ 112) ⌝ }
     ensures { λ r. ⌜ r ≡ dPlace Kind.Speech d ⌝ }
@@ -21,7 +21,7 @@ fn speech_place(d: usize) -> usize
     }
 }
 
-// Kind 3: as in kind 1, without a CRC.
+// Kind 3 (5.2.3): as in kind 1, without a CRC.
 fn om_place(d: usize) -> usize
     requires { ⌜ (1 ≤ d) × (d ≤ 120) ⌝ }
     ensures { λ r. ⌜ r ≡ dPlace Kind.Om d ⌝ }
@@ -29,7 +29,7 @@ fn om_place(d: usize) -> usize
     d + 21 + (d + 4) / 7
 }
 
-// Kinds 2 and 4: D1 and D2 stand behind C5 in octet 2, D3 behind 01 in octet 3, and seven D bits behind bit 1 of each octet from 4 on.
+// Kinds 2 (5.2.2) and 4 (5.2.1.3): D1 and D2 stand behind C5 in octet 2, D3 behind 01 in octet 3, and seven D bits behind bit 1 of each octet from 4 on.
 fn data_place(d: usize) -> usize
     requires { ⌜ (1 ≤ d) × (d ≤ 126) ⌝ }
     ensures { λ r. ⌜ r ≡ dPlace Kind.Data d ⌝ }
@@ -37,7 +37,8 @@ fn data_place(d: usize) -> usize
     if d < 3 { d + 13 } else { d + 15 + (d - 2) / 7 }
 }
 
-// Kinds 5 and 6: D1 stands behind bit 1 of octet 2, D8 behind C5 in octet 3, D10 behind 01 in octet 4, and seven D bits behind bit 1 of each octet from 5 on.
+// Kinds 5 and 6 (5.2.1.2.1): D1 stands behind bit 1 of octet 2, D8 behind C5 in octet 3, D10 behind 01 in octet 4, and seven D bits behind bit 1 of each octet
+// from 5 on.
 fn low_place(d: usize) -> usize
     requires { ⌜ (1 ≤ d) × (d ≤ 126) ⌝ }
     ensures { λ r. ⌜ r ≡ dPlace Kind.Lower d ⌝ }
@@ -51,8 +52,8 @@ fn low_place(d: usize) -> usize
     }
 }
 
-// Kind 7: D1 stands behind bit 1 of octet 2, D8 behind C3 in octet 3, D12 behind bit 1 of octet 4, as seven D bits do in octets 5 and 6, and fifteen behind bit
-// 1 of each odd octet from 7 on.
+// Kind 7 (5.2.1.2.2): D1 stands behind bit 1 of octet 2, D8 behind C3 in octet 3, seven D bits from D12 on behind bit 1 of each of octets 4 to 6, and fifteen
+// behind bit 1 of each odd octet from 7 on.
 fn place_670(d: usize) -> usize
     requires { ⌜ (1 ≤ d) × (d ≤ 137) ⌝ }
     ensures { λ r. ⌜ r ≡ dPlace Kind.Amr670 d ⌝ }
@@ -68,7 +69,7 @@ fn place_670(d: usize) -> usize
     }
 }
 
-// Kind 8: D1 stands behind 001 in octet 1, D6 behind bit 1 of octet 2, D13 behind C3 in octet 3, and all from D17 on behind bit 1 of octet 4.
+// Kind 8 (5.2.1.2.3): D1 stands behind 001 in octet 1, D6 behind bit 1 of octet 2, D13 behind C3 in octet 3, and all from D17 on behind bit 1 of octet 4.
 fn place_740(d: usize) -> usize
     requires { ⌜ (1 ≤ d) × (d ≤ 151) ⌝ }
     ensures { λ r. ⌜ r ≡ dPlace Kind.Amr740 d ⌝ }
