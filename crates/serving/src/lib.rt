@@ -1,0 +1,204 @@
+// What opening, closing and paging a session decide of what stands at a place of the list, by value: what stands there after, and what is answered.
+ghost use mathlib.Core.Path.{_≡_};
+ghost use Rattle.dplaces.specs.DPlaces.{Lent};
+ghost use Rattle.call.specs.Call.{next};
+ghost use Rattle.serving.specs.Serving.{newSession, openRefusal, nameRefusal, requestOf, movedTo};
+ghost use Rattle.serving.specs.Decided.{openingOf, closingOf, PagedAt};
+use call::Answer;
+use call::CursorNumbers;
+use call::PageRequest;
+use sessions::Found;
+use sessions::Session;
+
+// What opening answers: its number (0, or that of the refusal), and the place taken, 0 where it is refused.
+#[repr(C)]
+pub struct Opened {
+    pub number: u64,
+    pub place: u64,
+}
+
+// What comes of opening: where the session is stored (behind the list where it is refused), the session, and what is answered.
+pub struct Opening {
+    pub place: usize,
+    pub session: Session,
+    pub opened: Opened,
+}
+
+// What comes of closing: what stands at the place after, and the number.
+pub struct Closing {
+    pub session: Session,
+    pub number: u64,
+}
+
+// What a call brings for a page besides the capture's bytes and the buffer; direction and cursor are the session's.
+pub struct Asked {
+    pub n: u64,
+    pub profile: u8,
+    pub most: u64,
+}
+
+// What comes of a page: what stands at the place after, and what is answered.
+pub struct Paged {
+    pub session: Session,
+    pub answer: Answer,
+}
+
+// A session as opening makes it: the cursor at bit 0, context 0.
+fn new_session(key: u64, capture: u64, direction: u64) -> Session
+    ensures { λ r. ⌜ r ≡ newSession key capture direction ⌝ }
+{
+    Session {
+        used: 1,
+        key: key,
+        position: 0,
+        context: 0,
+        capture: capture,
+        direction: direction,
+    }
+}
+
+// The number of an opening in a list of so many places: 2, 1, 9, 8 in this order, or 0.
+fn open_refusal(found: Found, places: usize, direction: u64) -> u64
+    ensures { λ r. ⌜ r ≡ openRefusal found places direction ⌝ }
+{
+    if 32 < places {
+        return 2;
+    }
+    if 1 < direction {
+        return 1;
+    }
+    if found.held {
+        return 9;
+    }
+    if found.free == places {
+        return 8;
+    }
+    0
+}
+
+// Opening, by what was found in a list of so many places.
+pub fn open_in(found: Found, places: usize, key: u64, capture: u64, direction: u64) -> Opening
+    ensures { λ r. ⌜ r ≡ openingOf found places key capture direction ⌝ }
+{
+    let session = new_session(key, capture, direction);
+    let number = open_refusal(found, places, direction);
+    if number != 0 {
+        return Opening {
+            place: places,
+            session: session,
+            opened: Opened {
+                number: number,
+                place: 0,
+            },
+        };
+    }
+    Opening {
+        place: found.free,
+        session: session,
+        opened: Opened {
+            number: 0,
+            place: found.free as u64,
+        },
+    }
+}
+
+// The number of a call that names a place and a key: 2, then 10 where no session of that key stands there, or 0. A place outside the list stands as a free
+// one.
+fn name_refusal(session: Session, places: usize, key: u64) -> u64
+    ensures { λ r. ⌜ r ≡ nameRefusal session places key ⌝ }
+{
+    if 32 < places {
+        return 2;
+    }
+    if session.used == 0 {
+        return 10;
+    }
+    if session.key != key {
+        return 10;
+    }
+    0
+}
+
+// Closing, by what stands at the place named in a list of so many places: the place becomes free.
+pub fn close_at(session: Session, places: usize, key: u64) -> Closing
+    ensures { λ r. ⌜ r ≡ closingOf session places key ⌝ }
+{
+    let number = name_refusal(session, places, key);
+    if number != 0 {
+        return Closing {
+            session: session,
+            number: number,
+        };
+    }
+    Closing {
+        session: Session {
+            used: 0,
+            key: 0,
+            position: 0,
+            context: 0,
+            capture: 0,
+            direction: 0,
+        },
+        number: 0,
+    }
+}
+
+// What is asked of a page, by the session and by the call.
+fn request(session: Session, a: Asked) -> PageRequest
+    ensures { λ r. ⌜ r ≡ requestOf session a ⌝ }
+{
+    call::page_request(
+        a.n,
+        session.direction,
+        a.profile,
+        session.position,
+        session.context,
+        a.most,
+    )
+}
+
+// The session with the cursor that is answered.
+fn moved(session: Session, a: Answer) -> Session
+    ensures { λ r. ⌜ r ≡ movedTo session (next a) ⌝ }
+{
+    Session {
+        used: session.used,
+        key: session.key,
+        position: a.position,
+        context: a.context,
+        capture: session.capture,
+        direction: session.direction,
+    }
+}
+
+// A page, by what stands at the place named in a list of so many places: the session keeps the cursor that is answered. Where there is no session of that
+// key the cursor answered is zeros: the one that stands there is somebody else's.
+pub fn page_at(
+    session: Session,
+    places: usize,
+    key: u64,
+    capture: &[u8],
+    a: Asked,
+    table: &[u8],
+    buffer: &mut [u8],
+) -> Paged
+    requires { ⌜ Lent (now table) ⌝ }
+    ensures { λ r. ⌜ PagedAt session places key (now (capture .entry)) a (now (buffer .entry)) r (now (buffer .exit)) ⌝ }
+{
+    let number = name_refusal(session, places, key);
+    if number != 0 {
+        let nobody = CursorNumbers {
+            position: 0,
+            context: 0,
+        };
+        return Paged {
+            session: session,
+            answer: call::refuse(number, 0, nobody),
+        };
+    }
+    let answer = paging::page(capture, request(session, a), table, buffer);
+    Paged {
+        session: moved(session, answer),
+        answer: answer,
+    }
+}
