@@ -118,7 +118,16 @@ pub extern "C" fn bellrope_session_page(
     ensures { λ r. ⌜ SessionPageCall (now (sessions .entry)) place key (now (capture .entry)) (asked n profile most) (now (buffer .entry)) r (now (buffer .exit)) (now (sessions .exit)) ⌝ }
 {
     let session = sessions::at(sessions, place);
-    let paged = page_at(session, sessions.len(), key, capture, n, profile, most, buffer);
+    let paged = page_at(
+        session,
+        sessions.len(),
+        key,
+        capture,
+        n,
+        profile,
+        most,
+        buffer,
+    );
     sessions::store(sessions, place, paged.session);
     paged.answer
 }

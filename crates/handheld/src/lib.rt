@@ -2,8 +2,14 @@
 ghost use Rattle.paging.specs.Paging.{PageCall};
 ghost use Rattle.writing.specs.Writing.{WriteCall};
 ghost use Rattle.timeslot.specs.Timeslot.{TakeCall, PutCall};
+ghost use Rattle.serving.specs.Serving.{OpenCall, asked, SessionPageCall, CloseCall};
+ghost use Rattle.serving.specs.Decided.{PagedAt};
 ghost use Rattle.call.specs.Call.{pageRequest, writeRequest};
 use call::Answer;
+use serving::Asked;
+use serving::Opened;
+use serving::Paged;
+use sessions::Session;
 
 // A page of records from a cursor: the longest leading part of the reading that keeps to the count and fits the buffer; items, bytes, and the cursor
 // moved on.
@@ -56,4 +62,82 @@ pub extern "C" fn bellrope_put_channel(timeslot: &mut [u8], channel: u64, bytes:
     ensures { λ r. ⌜ PutCall (now (timeslot .entry)) channel (now (bytes .entry)) r (now (timeslot .exit)) ⌝ }
 {
     timeslot::put(timeslot, channel, bytes)
+}
+
+// A session opened in the list: its place.
+#[no_mangle]
+pub extern "C" fn bellrope_open(
+    sessions: &mut [Session],
+    key: u64,
+    capture: u64,
+    direction: u64,
+) -> Opened
+    ensures { λ r. ⌜ OpenCall (now (sessions .entry)) key capture direction r (now (sessions .exit)) ⌝ }
+{
+    let found = sessions::find(sessions, key);
+    let opening = serving::open_in(found, sessions.len(), key, capture, direction);
+    sessions::store(sessions, opening.place, opening.session);
+    opening.opened
+}
+
+// A page of a session, by what stands at its place.
+fn page_at(
+    session: Session,
+    places: usize,
+    key: u64,
+    capture: &[u8],
+    n: u64,
+    profile: u8,
+    most: u64,
+    buffer: &mut [u8],
+) -> Paged
+    ensures { λ r. ⌜ PagedAt session places key (now (capture .entry)) (asked n profile most) (now (buffer .entry)) r (now (buffer .exit)) ⌝ }
+{
+    let none = [0u8; 0];
+    let a = Asked {
+        n: n,
+        profile: profile,
+        most: most,
+    };
+    serving::page_at(session, places, key, capture, a, &none, buffer)
+}
+
+// A page of the session at a place: as `bellrope_page` with the session's direction and cursor; the session keeps the cursor that is answered.
+#[no_mangle]
+pub extern "C" fn bellrope_session_page(
+    sessions: &mut [Session],
+    place: usize,
+    key: u64,
+    capture: &[u8],
+    n: u64,
+    profile: u8,
+    most: u64,
+    buffer: &mut [u8],
+) -> Answer
+    ensures { λ r. ⌜ SessionPageCall (now (sessions .entry)) place key (now (capture .entry)) (asked n profile most) (now (buffer .entry)) r (now (buffer .exit)) (now (sessions .exit)) ⌝ }
+{
+    let session = sessions::at(sessions, place);
+    let paged = page_at(
+        session,
+        sessions.len(),
+        key,
+        capture,
+        n,
+        profile,
+        most,
+        buffer,
+    );
+    sessions::store(sessions, place, paged.session);
+    paged.answer
+}
+
+// The session at a place closed: the place is free.
+#[no_mangle]
+pub extern "C" fn bellrope_close(sessions: &mut [Session], place: usize, key: u64) -> u64
+    ensures { λ r. ⌜ CloseCall (now (sessions .entry)) place key r (now (sessions .exit)) ⌝ }
+{
+    let session = sessions::at(sessions, place);
+    let closing = serving::close_at(session, sessions.len(), key);
+    sessions::store(sessions, place, closing.session);
+    closing.number
 }

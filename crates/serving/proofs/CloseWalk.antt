@@ -13,11 +13,13 @@ use mir.Val.{Val, vint}
 use base.Logic.{SProp, ent, sep, emp, via, fst∗, snd∗, exE, id⊢}
 use base.Fml.{Lft, GName, Share, ftrue, fat, flft}
 use prog.Memory.{Memory}
-use prog.Routine.{Routine}
+use prog.Routine.{Routine, Env}
+use prog.Model.{Model}
 use prog.Wp.{Heap, Calls, Loops, WpFn, Tables}
 use ghost.Atoms.{Atoms, sem}
 use contract.Monad.{Fun, fact}
 use contract.Notation.{connectives}
+use contract.Running.{GhostRules, Running, givenOf, tables, tablesOf}
 use types.Kit.{Given, Item, ‵, raw, _⊛_, some, later, ⋆, _$_, _∵_, !, qed, by, move, keep, drop, use0, use1, use2, use3, split, join, pick, rewrite, fsplit, fjoin, feqL, suffices, frame, await, done}
 use types.Run.{look as see, init, forget, stop, hop, fld, from, load, addr, of-opd, and-then, no-more, assigns, land, returns, enter, alloc1, alloc0, params1, pass1, pass0, free1, free0}
 use types.Part.{agg, whole, sub, look-in}
@@ -37,6 +39,7 @@ use denote.Triple.Call.{calls-at}
 use denote.Triple.Clauses.{Ended, Clauses, ensured, lasts, closing}
 use denote.Triple.Entry.{Vals, onEntry}
 use denote.Triple.Spec.{Meets, tripleOf}
+use denote.Triple.Table.{cited}
 use denote.Triple.Walked.{says, Stays, stay-slice, stay-none, walkOf, goes-slice, goes-none, Walks, ends-at, walked, walk-meets}
 use denote.Exit.{yes}
 use Rattle.sessions.specs.declared.Session.{Session}
@@ -49,25 +52,31 @@ use Rattle.sessions.proofs.Share.{LentShared, shares, unshares}
 use Rattle.sessions.proofs.Session as T
 use Rattle.sessions.proofs.Session.Laws as T′
 use Rattle.sessions.proofs.at as at
+use Rattle.sessions.proofs.at.Symbol as at-def
 use Rattle.sessions.proofs.at.Symbol.{name as #at}
+use Rattle.sessions.proofs.at.Met as at-thm
 use Rattle.sessions.proofs.store as store
+use Rattle.sessions.proofs.store.Symbol as store-def
 use Rattle.sessions.proofs.store.Symbol.{name as #store}
+use Rattle.sessions.proofs.store.Met as store-thm
 use Rattle.serving.proofs.Closing as D
 use Rattle.serving.proofs.Closing.Laws as D′
 use Rattle.serving.proofs.close_at as close-at
+use Rattle.serving.proofs.close_at.Symbol as close-at-def
 use Rattle.serving.proofs.close_at.Symbol.{name as #close-at}
+use Rattle.serving.proofs.close_at.Met as close-at-thm
 use Rattle.serving.proofs.CallLaws.{close-call}
 use Rattle.serving.proofs.CallMir.{closes}
 use Rattle.serving.proofs.ListCalls.{val, At, to-at, goes-at, at-said, Store, to-store, goes-store}
 
 -- ---- the function
-abbrev pub signature : Signature
+abbrev signature : Signature
 signature = record { lifetimes = 1; outlives = []; params = SliceRefMutOf (0 ∷ []) tt (plain (λ _. T.the-row)) (λ _. tt) ∷ plain (λ _. usize) ∷ plain (λ _. u64) ∷ []; result = plain (λ _. u64) }
 
-abbrev pub ended : Ended
+abbrev ended : Ended
 ended = record { signature = signature; kept = (yes, (yes, (yes, tt))) }
 
-abbrev pub clauses : {M : Type 1} (𝓤 : URA M) (H : Heap 𝓤) (A : Atoms 𝓤) (mem : Memory → SProp 𝓤) (run : Routine → Fun 𝓤) → Clauses 𝓤 ended
+abbrev clauses : {M : Type 1} (𝓤 : URA M) (H : Heap 𝓤) (A : Atoms 𝓤) (mem : Memory → SProp 𝓤) (run : Routine → Fun 𝓤) → Clauses 𝓤 ended
 clauses 𝓤 H A mem run κs a = record {
   ghost = Unit {0};
   requires = λ _. connectives 𝓤 .⊤ₛ;
@@ -81,7 +90,7 @@ abbrev dval : Closing → Val
 dval = LL.val D.the-type D′.the-laws
 
 -- the contract that the proof cites besides those of the list
-abbrev pub CloseAt : {M : Type 1} (𝓤 : URA M) (H : Heap 𝓤) (A : Atoms 𝓤) (mem : Memory → SProp 𝓤) (run : Routine → Fun 𝓤) → Contract 𝓤
+abbrev CloseAt : {M : Type 1} (𝓤 : URA M) (H : Heap 𝓤) (A : Atoms 𝓤) (mem : Memory → SProp 𝓤) (run : Routine → Fun 𝓤) → Contract 𝓤
 CloseAt 𝓤 H A mem run = tripleOf 𝓤 H A close-at.signature (close-at.spec 𝓤 H A mem run)
 
 module _ {M : Type 1} (𝓤 : URA M) (H : Heap 𝓤) (A : Atoms 𝓤) (W : Given 𝓤 H A) (mem : Memory → SProp 𝓤) (run : Routine → Fun 𝓤) (κ : Lft) (q : Share) (b o : ℕ) (γ : GName) (ys : List Session) (place key : ℕ)
@@ -198,9 +207,19 @@ module _ {M : Type 1} (𝓤 : URA M) (H : Heap 𝓤) (A : Atoms 𝓤) (W : Given
       (λ κs qs bounds a g are. via 𝓤 _ (fst∗ 𝓤 _ (emp 𝓤))
       (walk 𝓤 H A W mem run (κs .0) (qs .0) (a .0 .ptr .0) (a .0 .ptr .1) (a .0 .name) (a .0 .now) (a .1 .0) (a .1 .1 .0) (are .0 .0 .1) (are .1 .0 .1) (are .1 .1 .0 .1) C Λ fm k₁ k₂ k₃))
 
-pub close-meets : {M : Type 1} (𝓤 : URA M) (H : Heap 𝓤) (A : Atoms 𝓤) → Given 𝓤 H A → (mem : Memory → SProp 𝓤) (run : Routine → Fun 𝓤) (𝓣 : Tables 𝓤 H)
+close-meets : {M : Type 1} (𝓤 : URA M) (H : Heap 𝓤) (A : Atoms 𝓤) → Given 𝓤 H A → (mem : Memory → SProp 𝓤) (run : Routine → Fun 𝓤) (𝓣 : Tables 𝓤 H)
     → Triple 𝓤 (𝓣 .C #at) (At 𝓤 H A mem run) → Triple 𝓤 (𝓣 .C #close-at) (CloseAt 𝓤 H A mem run) → Triple 𝓤 (𝓣 .C #store) (Store 𝓤 H A mem run)
     → Meets 𝓤 H A signature (WpFn 𝓤 H (𝓣 .C) (𝓣 .Λ) closes) (closing 𝓤 H A ended (clauses 𝓤 H A mem run))
 close-meets 𝓤 H A W mem run 𝓣 k₁ k₂ k₃ =
     walk-meets 𝓤 H A ended stayed W (goes-slice 𝓤 H A W 1 0 tt (plain (λ _. T.the-row)), (goes-none 𝓤 H A W 1 (λ _. usize) yes (λ κs x f. refl), (goes-none 𝓤 H A W 1 (λ _. u64) yes (λ κs x f. refl), tt)))
     (clauses 𝓤 H A mem run) (WpFn 𝓤 H (𝓣 .C) (𝓣 .Λ) closes) (WpFn-mono 𝓤 H (W .laws) 𝓣 closes) (close-walks 𝓤 H A W mem run (𝓣 .C) (𝓣 .Λ) (fmOf 𝓤 H (W .laws) 𝓣) k₁ k₂ k₃)
+
+-- in any program that calls the three by their names
+pub close-met : {M : Type 1} (𝓤 : URA M) (H : Heap 𝓤) (𝓜 : Model 𝓤 H) (𝓖 : GhostRules 𝓤 H) (𝓡 : Running 𝓤 H 𝓜) (env : Env) → env #at ≡ at-def.routine → env #close-at ≡ close-at-def.routine → env #store ≡ store-def.routine
+    → Meets 𝓤 H (𝓖 .A) signature (WpFn 𝓤 H (tables 𝓤 H 𝓜 𝓡 env .C) (tables 𝓤 H 𝓜 𝓡 env .Λ) closes) (closing 𝓤 H (𝓖 .A) ended (clauses 𝓤 H (𝓖 .A) (𝓜 .mem) (𝓡 .run)))
+unfolding tablesOf
+close-met 𝓤 H 𝓜 𝓖 𝓡 env a c s =
+    close-meets 𝓤 H (𝓖 .A) (givenOf 𝓤 H 𝓜 𝓖) (𝓜 .mem) (𝓡 .run) (tablesOf 𝓤 H 𝓜 (tables 𝓤 H 𝓜 𝓡 env))
+    (cited 𝓤 H (At 𝓤 H (𝓖 .A) (𝓜 .mem) (𝓡 .run)) 𝓜 𝓡 env #at at-def.routine a (at-thm.met 𝓤 H 𝓜 𝓖 𝓡))
+    (cited 𝓤 H (CloseAt 𝓤 H (𝓖 .A) (𝓜 .mem) (𝓡 .run)) 𝓜 𝓡 env #close-at close-at-def.routine c (close-at-thm.met 𝓤 H 𝓜 𝓖 𝓡))
+    (cited 𝓤 H (Store 𝓤 H (𝓖 .A) (𝓜 .mem) (𝓡 .run)) 𝓜 𝓡 env #store store-def.routine s (store-thm.met 𝓤 H 𝓜 𝓖 𝓡))

@@ -13,11 +13,13 @@ use mir.Val.{Val, vint}
 use base.Logic.{SProp, ent, sep, emp, via, fst∗, snd∗, exE, id⊢}
 use base.Fml.{Lft, GName, Share, ftrue, fat, flft}
 use prog.Memory.{Memory}
-use prog.Routine.{Routine}
+use prog.Routine.{Routine, Env}
+use prog.Model.{Model}
 use prog.Wp.{Heap, Calls, Loops, WpFn, Tables}
 use ghost.Atoms.{Atoms, sem}
 use contract.Monad.{Fun, fact}
 use contract.Notation.{connectives}
+use contract.Running.{GhostRules, Running, givenOf, tables, tablesOf}
 use types.Kit.{Given, Item, ‵, raw, _⊛_, some, later, ⋆, _$_, _∵_, !, qed, by, move, keep, drop, use0, use1, use2, use3, split, join, pick, rewrite, fsplit, fjoin, feqL, suffices, frame, await, done}
 use types.Run.{look, init, forget, stop, hop, fld, from, load, addr, of-opd, and-then, no-more, assigns, land, returns, enter, alloc1, alloc0, params1, pass1, pass0, free1, free0}
 use types.Part.{agg, whole, sub, look-in}
@@ -37,6 +39,7 @@ use denote.Triple.Call.{calls-at}
 use denote.Triple.Clauses.{Ended, Clauses, ensured, lasts, closing}
 use denote.Triple.Entry.{Vals, onEntry}
 use denote.Triple.Spec.{Meets, tripleOf}
+use denote.Triple.Table.{cited}
 use denote.Triple.Walked.{says, Stays, stay-slice, stay-none, walkOf, goes-slice, goes-none, Walks, ends-at, walked, walk-meets}
 use denote.Exit.{yes}
 use Rattle.sessions.specs.declared.Session.{Session}
@@ -57,23 +60,29 @@ use Rattle.serving.proofs.Opened.Laws as O′
 use Rattle.serving.proofs.Opening as D
 use Rattle.serving.proofs.Opening.Laws as D′
 use Rattle.sessions.proofs.find as find
+use Rattle.sessions.proofs.find.Symbol as find-def
 use Rattle.sessions.proofs.find.Symbol.{name as #find}
+use Rattle.sessions.proofs.find.Met as find-thm
 use Rattle.serving.proofs.open_in as open-in
+use Rattle.serving.proofs.open_in.Symbol as open-in-def
 use Rattle.serving.proofs.open_in.Symbol.{name as #open-in}
+use Rattle.serving.proofs.open_in.Met as open-in-thm
 use Rattle.sessions.proofs.store as store
+use Rattle.sessions.proofs.store.Symbol as store-def
 use Rattle.sessions.proofs.store.Symbol.{name as #store}
+use Rattle.sessions.proofs.store.Met as store-thm
 use Rattle.serving.proofs.CallLaws.{open-call}
 use Rattle.serving.proofs.CallMir.{opens}
 use Rattle.serving.proofs.ListCalls.{val, Store, to-store, goes-store}
 
 -- ---- the function
-abbrev pub signature : Signature
+abbrev signature : Signature
 signature = record { lifetimes = 1; outlives = []; params = SliceRefMutOf (0 ∷ []) tt (plain (λ _. T.the-row)) (λ _. tt) ∷ plain (λ _. u64) ∷ plain (λ _. u64) ∷ plain (λ _. u64) ∷ []; result = plain (λ _. O.the-row) }
 
-abbrev pub ended : Ended
+abbrev ended : Ended
 ended = record { signature = signature; kept = (yes, (yes, (yes, (yes, tt)))) }
 
-abbrev pub clauses : {M : Type 1} (𝓤 : URA M) (H : Heap 𝓤) (A : Atoms 𝓤) (mem : Memory → SProp 𝓤) (run : Routine → Fun 𝓤) → Clauses 𝓤 ended
+abbrev clauses : {M : Type 1} (𝓤 : URA M) (H : Heap 𝓤) (A : Atoms 𝓤) (mem : Memory → SProp 𝓤) (run : Routine → Fun 𝓤) → Clauses 𝓤 ended
 clauses 𝓤 H A mem run κs a = record {
   ghost = Unit {0};
   requires = λ _. connectives 𝓤 .⊤ₛ;
@@ -94,10 +103,10 @@ oval = LL.val O.the-type O′.the-laws
 
 -- the contracts that the proof cites
 module _ {M : Type 1} (𝓤 : URA M) (H : Heap 𝓤) (A : Atoms 𝓤) (mem : Memory → SProp 𝓤) (run : Routine → Fun 𝓤) where
-  abbrev pub Find : Contract 𝓤
+  abbrev Find : Contract 𝓤
   Find = tripleOf 𝓤 H A find.signature (find.spec 𝓤 H A mem run)
 
-  abbrev pub OpenIn : Contract 𝓤
+  abbrev OpenIn : Contract 𝓤
   OpenIn = tripleOf 𝓤 H A open-in.signature (open-in.spec 𝓤 H A mem run)
 
 module _ {M : Type 1} (𝓤 : URA M) (H : Heap 𝓤) (A : Atoms 𝓤) (W : Given 𝓤 H A) (mem : Memory → SProp 𝓤) (run : Routine → Fun 𝓤) (κ : Lft) (q : Share) (b o : ℕ) (γ : GName) (ys : List Session) (key capture direction : ℕ)
@@ -228,9 +237,19 @@ module _ {M : Type 1} (𝓤 : URA M) (H : Heap 𝓤) (A : Atoms 𝓤) (W : Given
       (λ κs qs bounds a g are. via 𝓤 _ (fst∗ 𝓤 _ (emp 𝓤))
       (walk 𝓤 H A W mem run (κs .0) (qs .0) (a .0 .ptr .0) (a .0 .ptr .1) (a .0 .name) (a .0 .now) (a .1 .0) (a .1 .1 .0) (a .1 .1 .1 .0) (are .0 .0 .1) (are .1 .0 .1) (are .1 .1 .0 .1) (are .1 .1 .1 .0 .1) C Λ fm k₁ k₂ k₃))
 
-pub open-meets : {M : Type 1} (𝓤 : URA M) (H : Heap 𝓤) (A : Atoms 𝓤) → Given 𝓤 H A → (mem : Memory → SProp 𝓤) (run : Routine → Fun 𝓤) (𝓣 : Tables 𝓤 H)
+open-meets : {M : Type 1} (𝓤 : URA M) (H : Heap 𝓤) (A : Atoms 𝓤) → Given 𝓤 H A → (mem : Memory → SProp 𝓤) (run : Routine → Fun 𝓤) (𝓣 : Tables 𝓤 H)
     → Triple 𝓤 (𝓣 .C #find) (Find 𝓤 H A mem run) → Triple 𝓤 (𝓣 .C #open-in) (OpenIn 𝓤 H A mem run) → Triple 𝓤 (𝓣 .C #store) (Store 𝓤 H A mem run)
     → Meets 𝓤 H A signature (WpFn 𝓤 H (𝓣 .C) (𝓣 .Λ) opens) (closing 𝓤 H A ended (clauses 𝓤 H A mem run))
 open-meets 𝓤 H A W mem run 𝓣 k₁ k₂ k₃ =
     walk-meets 𝓤 H A ended stayed W (goes-slice 𝓤 H A W 1 0 tt (plain (λ _. T.the-row)), (goes-none 𝓤 H A W 1 (λ _. u64) yes (λ κs x f. refl), (goes-none 𝓤 H A W 1 (λ _. u64) yes (λ κs x f. refl), (goes-none 𝓤 H A W 1 (λ _. u64) yes (λ κs x f. refl), tt))))
     (clauses 𝓤 H A mem run) (WpFn 𝓤 H (𝓣 .C) (𝓣 .Λ) opens) (WpFn-mono 𝓤 H (W .laws) 𝓣 opens) (open-walks 𝓤 H A W mem run (𝓣 .C) (𝓣 .Λ) (fmOf 𝓤 H (W .laws) 𝓣) k₁ k₂ k₃)
+
+-- in any program that calls the three by their names
+pub open-met : {M : Type 1} (𝓤 : URA M) (H : Heap 𝓤) (𝓜 : Model 𝓤 H) (𝓖 : GhostRules 𝓤 H) (𝓡 : Running 𝓤 H 𝓜) (env : Env) → env #find ≡ find-def.routine → env #open-in ≡ open-in-def.routine → env #store ≡ store-def.routine
+    → Meets 𝓤 H (𝓖 .A) signature (WpFn 𝓤 H (tables 𝓤 H 𝓜 𝓡 env .C) (tables 𝓤 H 𝓜 𝓡 env .Λ) opens) (closing 𝓤 H (𝓖 .A) ended (clauses 𝓤 H (𝓖 .A) (𝓜 .mem) (𝓡 .run)))
+unfolding tablesOf
+open-met 𝓤 H 𝓜 𝓖 𝓡 env f o s =
+    open-meets 𝓤 H (𝓖 .A) (givenOf 𝓤 H 𝓜 𝓖) (𝓜 .mem) (𝓡 .run) (tablesOf 𝓤 H 𝓜 (tables 𝓤 H 𝓜 𝓡 env))
+    (cited 𝓤 H (Find 𝓤 H (𝓖 .A) (𝓜 .mem) (𝓡 .run)) 𝓜 𝓡 env #find find-def.routine f (find-thm.met 𝓤 H 𝓜 𝓖 𝓡))
+    (cited 𝓤 H (OpenIn 𝓤 H (𝓖 .A) (𝓜 .mem) (𝓡 .run)) 𝓜 𝓡 env #open-in open-in-def.routine o (open-in-thm.met 𝓤 H 𝓜 𝓖 𝓡))
+    (cited 𝓤 H (Store 𝓤 H (𝓖 .A) (𝓜 .mem) (𝓡 .run)) 𝓜 𝓡 env #store store-def.routine s (store-thm.met 𝓤 H 𝓜 𝓖 𝓡))

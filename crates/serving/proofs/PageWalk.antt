@@ -13,11 +13,13 @@ use mir.Val.{Val, vint}
 use base.Logic.{SProp, ent, sep, emp, via, fst∗, snd∗, exE, id⊢}
 use base.Fml.{Lft, GName, Share, ftrue, fat, flft}
 use prog.Memory.{Memory}
-use prog.Routine.{Routine}
+use prog.Routine.{Routine, Env}
+use prog.Model.{Model}
 use prog.Wp.{Heap, Calls, Loops, WpFn, Tables}
 use ghost.Atoms.{Atoms, sem}
 use contract.Monad.{Fun, fact}
 use contract.Notation.{connectives}
+use contract.Running.{GhostRules, Running, givenOf, tables, tablesOf}
 use types.Kit.{Given, Item, ‵, raw, _⊛_, some, later, ⋆, _$_, _∵_, !, qed, by, move, keep, drop, use0, use1, use2, use3, split, join, pick, rewrite, fsplit, fjoin, feqL, suffices, frame, await, done}
 use types.Run.{look as see, init, forget, stop, hop, fld, from, load, addr, of-opd, and-then, no-more, assigns, land, returns, enter, alloc1, alloc0, params1, pass1, pass0, free1, free0}
 use types.Part.{agg, whole, sub, look-in}
@@ -37,6 +39,7 @@ use denote.Triple.Call.{calls-at}
 use denote.Triple.Clauses.{Ended, Clauses, ensured, lasts, closing}
 use denote.Triple.Entry.{Vals, onEntry}
 use denote.Triple.Spec.{Meets, tripleOf}
+use denote.Triple.Table.{cited}
 use denote.Triple.Walked.{says, Stays, stay-slice, stay-none, stay-none-slice, gave-slice, walkOf, goes-slice, goes-none, goes-none-slice, goes-gave-slice, Walks, ends-at, walked, walk-meets}
 use denote.Exit.{yes}
 use Rattle.sessions.specs.declared.Session.{Session}
@@ -51,9 +54,13 @@ use Rattle.sessions.proofs.Share.{LentShared, shares, unshares}
 use Rattle.sessions.proofs.Session as T
 use Rattle.sessions.proofs.Session.Laws as T′
 use Rattle.sessions.proofs.at as at
+use Rattle.sessions.proofs.at.Symbol as at-def
 use Rattle.sessions.proofs.at.Symbol.{name as #at}
+use Rattle.sessions.proofs.at.Met as at-thm
 use Rattle.sessions.proofs.store as store
+use Rattle.sessions.proofs.store.Symbol as store-def
 use Rattle.sessions.proofs.store.Symbol.{name as #store}
+use Rattle.sessions.proofs.store.Met as store-thm
 use Rattle.call.proofs.Answer as An
 use Rattle.call.proofs.Answer.Laws as An′
 use Rattle.serving.proofs.Paged as D
@@ -63,7 +70,7 @@ use Rattle.serving.proofs.CallMir.{pages}
 use Rattle.serving.proofs.ListCalls.{val, At, to-at, goes-at, at-said, Store, to-store, goes-store}
 
 -- ---- the function
-abbrev pub signature : Signature
+abbrev signature : Signature
 signature = record {
   lifetimes = 3;
   outlives = [];
@@ -73,10 +80,10 @@ signature = record {
   result = plain (λ _. An.the-row);
 }
 
-abbrev pub ended : Ended
+abbrev ended : Ended
 ended = record { signature = signature; kept = (yes, (yes, (yes, (yes, (yes, (yes, (yes, (yes, tt)))))))) }
 
-abbrev pub clauses : {M : Type 1} (𝓤 : URA M) (H : Heap 𝓤) (A : Atoms 𝓤) (mem : Memory → SProp 𝓤) (run : Routine → Fun 𝓤) → Clauses 𝓤 ended
+abbrev clauses : {M : Type 1} (𝓤 : URA M) (H : Heap 𝓤) (A : Atoms 𝓤) (mem : Memory → SProp 𝓤) (run : Routine → Fun 𝓤) → Clauses 𝓤 ended
 clauses 𝓤 H A mem run κs a = record {
   ghost = Unit {0};
   requires = λ _. connectives 𝓤 .⊤ₛ;
@@ -108,7 +115,7 @@ clauses-at 𝓤 H A mem run κs a = record {
       r (now (end .1 .1 .1 .1 .1 .1 .1 .0)));
 }
 
-abbrev pub PageAt : {M : Type 1} (𝓤 : URA M) (H : Heap 𝓤) (A : Atoms 𝓤) (mem : Memory → SProp 𝓤) (run : Routine → Fun 𝓤) → Contract 𝓤
+abbrev PageAt : {M : Type 1} (𝓤 : URA M) (H : Heap 𝓤) (A : Atoms 𝓤) (mem : Memory → SProp 𝓤) (run : Routine → Fun 𝓤) → Contract 𝓤
 PageAt 𝓤 H A mem run = tripleOf 𝓤 H A signature-at (closing 𝓤 H A ended-at (clauses-at 𝓤 H A mem run))
 
 abbrev stayed : Stays (ended .signature .params) (ended .kept)
@@ -272,9 +279,20 @@ module _ {M : Type 1} (𝓤 : URA M) (H : Heap 𝓤) (A : Atoms 𝓤) (W : Given
       (walk 𝓤 H A W mem run (κs .0) (κs .1 .0) (κs .1 .1 .0) (qs .0) (qs .1 .0) (qs .1 .1 .0) (a .0 .ptr .0) (a .0 .ptr .1) (a .0 .name) (a .0 .now) (a .1 .0) (a .1 .1 .0) (a .1 .1 .1 .0) (a .1 .1 .1 .1 .0) (a .1 .1 .1 .1 .1 .0) (a .1 .1 .1 .1 .1 .1 .0) (a .1 .1 .1 .1 .1 .1 .1 .0)
       (are .0 .0 .1) (are .1 .0 .1) (are .1 .1 .0 .1) (are .1 .1 .1 .0 .0 .1) (are .1 .1 .1 .1 .0 .1) (are .1 .1 .1 .1 .1 .0 .1) (are .1 .1 .1 .1 .1 .1 .0 .1) (are .1 .1 .1 .1 .1 .1 .1 .0 .0 .1) #page-at C Λ fm k₁ k₂ k₃))
 
-pub page-meets : {M : Type 1} (𝓤 : URA M) (H : Heap 𝓤) (A : Atoms 𝓤) → Given 𝓤 H A → (mem : Memory → SProp 𝓤) (run : Routine → Fun 𝓤) (#page-at : Name) (𝓣 : Tables 𝓤 H)
+page-meets : {M : Type 1} (𝓤 : URA M) (H : Heap 𝓤) (A : Atoms 𝓤) → Given 𝓤 H A → (mem : Memory → SProp 𝓤) (run : Routine → Fun 𝓤) (#page-at : Name) (𝓣 : Tables 𝓤 H)
     → Triple 𝓤 (𝓣 .C #at) (At 𝓤 H A mem run) → Triple 𝓤 (𝓣 .C #page-at) (PageAt 𝓤 H A mem run) → Triple 𝓤 (𝓣 .C #store) (Store 𝓤 H A mem run)
     → Meets 𝓤 H A signature (WpFn 𝓤 H (𝓣 .C) (𝓣 .Λ) (pages #page-at)) (closing 𝓤 H A ended (clauses 𝓤 H A mem run))
 page-meets 𝓤 H A W mem run #page-at 𝓣 k₁ k₂ k₃ =
     walk-meets 𝓤 H A ended stayed W (goes-slice 𝓤 H A W 3 0 tt (plain (λ _. T.the-row)), (goes-none 𝓤 H A W 3 (λ _. usize) yes (λ κs x f. refl), (goes-none 𝓤 H A W 3 (λ _. u64) yes (λ κs x f. refl), (goes-none-slice 𝓤 H A W 3 (1 ∷ []) tt (plain (λ _. u8)) yes, (goes-none 𝓤 H A W 3 (λ _. u64) yes (λ κs x f. refl), (goes-none 𝓤 H A W 3 (λ _. u8) yes (λ κs x f. refl), (goes-none 𝓤 H A W 3 (λ _. u64) yes (λ κs x f. refl), (goes-gave-slice 𝓤 H A W 3 2 tt (plain (λ _. u8)), tt))))))))
     (clauses 𝓤 H A mem run) (WpFn 𝓤 H (𝓣 .C) (𝓣 .Λ) (pages #page-at)) (WpFn-mono 𝓤 H (W .laws) 𝓣 (pages #page-at)) (page-walks 𝓤 H A W mem run #page-at (𝓣 .C) (𝓣 .Λ) (fmOf 𝓤 H (W .laws) 𝓣) k₁ k₂ k₃)
+
+-- in any program that calls the list's two by their names, and what makes the page by its own
+pub page-met : {M : Type 1} (𝓤 : URA M) (H : Heap 𝓤) (𝓜 : Model 𝓤 H) (𝓖 : GhostRules 𝓤 H) (𝓡 : Running 𝓤 H 𝓜) (env : Env) (#page-at : Name) (makes : Routine)
+    → env #at ≡ at-def.routine → env #page-at ≡ makes → Triple 𝓤 (𝓡 .run makes) (PageAt 𝓤 H (𝓖 .A) (𝓜 .mem) (𝓡 .run)) → env #store ≡ store-def.routine
+    → Meets 𝓤 H (𝓖 .A) signature (WpFn 𝓤 H (tables 𝓤 H 𝓜 𝓡 env .C) (tables 𝓤 H 𝓜 𝓡 env .Λ) (pages #page-at)) (closing 𝓤 H (𝓖 .A) ended (clauses 𝓤 H (𝓖 .A) (𝓜 .mem) (𝓡 .run)))
+unfolding tablesOf
+page-met 𝓤 H 𝓜 𝓖 𝓡 env #page-at makes a p makes-it s =
+    page-meets 𝓤 H (𝓖 .A) (givenOf 𝓤 H 𝓜 𝓖) (𝓜 .mem) (𝓡 .run) #page-at (tablesOf 𝓤 H 𝓜 (tables 𝓤 H 𝓜 𝓡 env))
+    (cited 𝓤 H (At 𝓤 H (𝓖 .A) (𝓜 .mem) (𝓡 .run)) 𝓜 𝓡 env #at at-def.routine a (at-thm.met 𝓤 H 𝓜 𝓖 𝓡))
+    (cited 𝓤 H (PageAt 𝓤 H (𝓖 .A) (𝓜 .mem) (𝓡 .run)) 𝓜 𝓡 env #page-at makes p makes-it)
+    (cited 𝓤 H (Store 𝓤 H (𝓖 .A) (𝓜 .mem) (𝓡 .run)) 𝓜 𝓡 env #store store-def.routine s (store-thm.met 𝓤 H 𝓜 𝓖 𝓡))
