@@ -6,7 +6,8 @@
  * byte; bits from n on are never looked at. A capture has, with its direction and its profile, one
  * reading: a list of items, frames and gaps, that lie end to end. Paging hands it out as records,
  * writing puts records back as bits. A cursor is a position and a context. It goes in and comes
- * back; nothing else is kept between calls, so any number of threads may call at once.
+ * back; nothing is kept between calls but what the caller lends, so any number of threads may call
+ * at once.
  *
  * To harvest a capture completely, go on from page to page until the position is n. The pages
  * joined are the reading, none of it lost or repeated, whatever the counts and the buffers:
@@ -27,19 +28,23 @@
  * Where a whole timeslot of 64 kbit/s was recorded, bellrope_take_channel takes one of its eight
  * channels out as such a capture, and bellrope_put_channel puts it back among the other seven.
  *
- * This header has the names first, then the four calls of the library, and at the end the forms of
+ * Where harvesters lose their cursors, a server keeps them: bellrope_open, bellrope_session_page
+ * and bellrope_close work on a list of sessions that it lends.
+ *
+ * This header has the names first, then the seven calls of the library, and at the end the forms of
  * paging and writing used here. Those stay as they are when a field is added to what is read, to a
  * cursor or to a record; paging and writing then take one number more.
  *
- * What is lent: what is const is only read, a buffer or timeslot changes only as said at its call,
- * and a refused call changes no lent byte. The two slices of a call must not overlap. */
+ * What is lent: what is const is only read, a buffer, timeslot or list of sessions changes only as
+ * said at its call, and a refused call changes no lent byte. The slices of a call must not overlap,
+ * and no other thread may use those that it changes. */
 #ifndef BELLROPE_H
 #define BELLROPE_H
 
 #include <stddef.h>
 #include <stdint.h>
 
-#define BELLROPE_VERSION "0.6"
+#define BELLROPE_VERSION "0.7"
 
 #ifdef __cplusplus
 extern "C" {
@@ -50,18 +55,21 @@ enum {
 	                                 write to; a page buffer may have any length */
 	BELLROPE_RECORD_MOST = 31,    /* bytes of the longest record */
 	BELLROPE_OCTETS_MOST = 65536, /* of a timeslot */
-	BELLROPE_CHANNEL_MOST = 8192  /* bytes of a channel taken out of one */
+	BELLROPE_CHANNEL_MOST = 8192, /* bytes of a channel taken out of one */
+	BELLROPE_SESSIONS_MOST = 32   /* of a list */
 };
 
 enum bellrope_direction { BELLROPE_UPLINK = 0, BELLROPE_DOWNLINK = 1 };
 
 /* The number of an answer. One above 0 is given exactly when what it says holds; if several hold,
- * the lowest, but for 4 to 6 see writing, and 7 comes before all others. */
+ * the lowest, but for 4 to 6 see writing, 7 and 10 come before all others (10 only behind 2 for the
+ * list), and 9 before 8. */
 enum bellrope_number {
 	BELLROPE_TAKEN = 0,       /* not refused */
 	BELLROPE_BAD_REQUEST = 1, /* direction above 1, most 0, or too many bytes of records */
 	BELLROPE_TOO_LONG = 2,    /* too many bytes of capture or of buffer to write to, n above 8
-	                             times the capture's bytes, or too many octets of timeslot */
+	                             times the capture's bytes, too many octets of timeslot, or too
+	                             many sessions */
 	BELLROPE_BAD_CURSOR = 3,  /* position beyond n (writing: beyond 8 times the buffer's bytes),
 	                             or context above 5 */
 	BELLROPE_NO_ROOM = 4,     /* paging: an item is left and the first does not fit the buffer,
@@ -72,7 +80,10 @@ enum bellrope_number {
 	                             that kind in that direction */
 	BELLROPE_NOT_DUE = 6,     /* writing: sound, but its start is not the position then, or its
 	                             verdict or its kind is not due in that context */
-	BELLROPE_NO_CHANNEL = 7   /* channel outside 1 to 8 */
+	BELLROPE_NO_CHANNEL = 7,  /* channel outside 1 to 8 */
+	BELLROPE_FULL = 8,        /* opening: no place of the list is free */
+	BELLROPE_KEY_PRESENT = 9, /* opening: the key already holds a place */
+	BELLROPE_NO_SESSION = 10  /* the place is outside the list, free, or another key's */
 };
 
 /* The context of a cursor is what was read last. It decides which frames may come next, and how
@@ -138,7 +149,7 @@ typedef struct {
  *   buffer                  where the records go
  * Before n a page that is not refused has at least one item; at n it has none. Should the capture
  * grow, a page that ends before n would be the same again; for one that ends at n see
- * bellrope_settled. In all four calls pointers must be valid even where the length is 0. */
+ * bellrope_settled. In all seven calls pointers must be valid even where the length is 0. */
 bellrope_answer bellrope_page(const uint8_t *capture, size_t capture_len, uint64_t n,
                               uint64_t direction, uint8_t profile, uint64_t position,
                               uint64_t context, uint64_t most, uint8_t *buffer,
@@ -178,6 +189,42 @@ uint64_t bellrope_take_channel(const uint8_t *timeslot, size_t timeslot_len, uin
                                uint8_t *buffer, size_t buffer_len);
 uint64_t bellrope_put_channel(uint8_t *timeslot, size_t timeslot_len, uint64_t channel,
                               const uint8_t *bytes, size_t bytes_len);
+
+/* Sessions: a list of at most 32 places that the server keeps and lends to each of these calls. A
+ * place is free, or holds a key with its cursor, capture and direction; zeros are a list of free
+ * ones. Whatever other keys do in between, the pages of a session are those of a harvest alone. */
+typedef struct {
+	uint64_t used;      /* 0: free, and then the rest means nothing; any other: taken */
+	uint64_t key;       /* whose it is: any number, 0 too */
+	uint64_t position;  /* its cursor */
+	uint64_t context;
+	uint64_t capture;   /* the number of its capture: the server's own, only kept here */
+	uint64_t direction; /* of that capture */
+} bellrope_session;
+
+typedef struct {
+	uint64_t number; /* 0, or why it is refused: 2, 1, 9 or 8 */
+	uint64_t place;  /* the place taken, from 0; 0 on a refusal */
+} bellrope_opened;
+
+/* Opening takes the lowest free place, also one that was closed before, with the cursor at bit 0,
+ * context 0. */
+bellrope_opened bellrope_open(bellrope_session *sessions, size_t sessions_len, uint64_t key,
+                              uint64_t capture, uint64_t direction);
+
+/* A page of the session that the key holds at the place: as bellrope_page, with its direction and
+ * its cursor, and the session keeps the cursor that is answered. Bring the bytes and n of its
+ * capture. Number 2 for the list and 10 come first, and answer a cursor of zeros; then those of
+ * paging. If the capture may still grow, use bellrope_session_settled: a cursor at n would not stay
+ * good. */
+bellrope_answer bellrope_session_page(bellrope_session *sessions, size_t sessions_len,
+                                      uint64_t place, uint64_t key, const uint8_t *capture,
+                                      size_t capture_len, uint64_t n, uint8_t profile,
+                                      uint64_t most, uint8_t *buffer, size_t buffer_len);
+
+/* Closing frees the place of the key, all of it 0. It answers a number: 0, or 2 or 10. */
+uint64_t bellrope_close(bellrope_session *sessions, size_t sessions_len, uint64_t place,
+                        uint64_t key);
 
 /* From here on: paging and writing over structs, and readers of what they answer. All is inline.
  * Where a length is 0, the pointer may be NULL. */
@@ -275,6 +322,30 @@ static inline bellrope_answer bellrope_settled(bellrope_capture capture, bellrop
 	return answer;
 }
 
+/* The same of a session: it keeps a cursor that stays good. */
+static inline bellrope_answer bellrope_session_settled(
+	bellrope_session *sessions, size_t sessions_len, uint64_t place, uint64_t key,
+	const uint8_t *capture, size_t capture_len, uint64_t n, uint8_t profile, uint64_t most,
+	uint8_t *buffer, size_t buffer_len) {
+	if (sessions_len <= BELLROPE_SESSIONS_MOST && place < sessions_len) {
+		bellrope_session ahead = sessions[place];
+		bellrope_answer answer = bellrope_session_page(&ahead, 1, 0, key, capture, capture_len, n,
+		                                               profile, most, buffer, buffer_len);
+		if (answer.number != BELLROPE_TAKEN) return answer;
+		if (answer.position == n) {
+			most = answer.items - 1;
+			if (answer.items <= 1) {
+				answer.items = answer.bytes = 0;
+				answer.position = sessions[place].position;
+				answer.context = sessions[place].context;
+				return answer;
+			}
+		}
+	}
+	return bellrope_session_page(sessions, sessions_len, place, key, capture, capture_len, n,
+	                             profile, most, buffer, buffer_len);
+}
+
 /* Writing at the cursor, which moves behind the last frame unless the call is refused. */
 static inline bellrope_answer bellrope_put(bellrope_buffer buffer, bellrope_cursor *cursor,
                                            const uint8_t *records, size_t length) {
@@ -319,9 +390,10 @@ static inline const bellrope_about *bellrope_about_kind(uint64_t kind) {
 static inline const char *bellrope_number_name(uint64_t number) {
 	static const char *const names[] = {
 		"taken", "bad request", "too long", "bad cursor", "no room", "unsound record",
-		"record not due", "no such channel", "unknown number"
+		"record not due", "no such channel", "list of sessions full", "key already present",
+		"no such session", "unknown number"
 	};
-	return names[number <= BELLROPE_NO_CHANNEL ? number : BELLROPE_NO_CHANNEL + 1];
+	return names[number <= BELLROPE_NO_SESSION ? number : BELLROPE_NO_SESSION + 1];
 }
 
 /* The bytes of a record of this kind; 0 for an unknown kind. */
