@@ -2,11 +2,11 @@
 ghost use Rattle.paging.specs.Paging.{PageCall};
 ghost use Rattle.writing.specs.Writing.{WriteCall};
 ghost use Rattle.timeslot.specs.Timeslot.{TakeCall, PutCall};
-ghost use Rattle.serving.specs.Serving.{OpenCall, asked, SessionPageCall, CloseCall};
+ghost use Rattle.serving.specs.Serving.{OpenCall, brought, SessionPageCall, CloseCall};
 ghost use Rattle.serving.specs.Decided.{PagedAt};
 ghost use Rattle.call.specs.Call.{pageRequest, writeRequest};
 use call::Answer;
-use serving::Asked;
+use serving::Brought;
 use serving::Opened;
 use serving::Paged;
 use sessions::Session;
@@ -91,10 +91,10 @@ fn page_at(
     most: u64,
     buffer: &mut [u8],
 ) -> Paged
-    ensures { λ r. ⌜ PagedAt session places key (now (capture .entry)) (asked n profile most) (now (buffer .entry)) r (now (buffer .exit)) ⌝ }
+    ensures { λ r. ⌜ PagedAt session places key (now (capture .entry)) (brought n profile most) (now (buffer .entry)) r (now (buffer .exit)) ⌝ }
 {
     let none = [0u8; 0];
-    let a = Asked {
+    let a = Brought {
         n: n,
         profile: profile,
         most: most,
@@ -114,7 +114,7 @@ pub extern "C" fn bellrope_session_page(
     most: u64,
     buffer: &mut [u8],
 ) -> Answer
-    ensures { λ r. ⌜ SessionPageCall (now (sessions .entry)) place key (now (capture .entry)) (asked n profile most) (now (buffer .entry)) r (now (buffer .exit)) (now (sessions .exit)) ⌝ }
+    ensures { λ r. ⌜ SessionPageCall (now (sessions .entry)) place key (now (capture .entry)) (brought n profile most) (now (buffer .entry)) r (now (buffer .exit)) (now (sessions .exit)) ⌝ }
 {
     let session = sessions::at(sessions, place);
     let paged = page_at(

@@ -12,7 +12,7 @@ use Rattle.sessions.specs.Sessions.{blank, freeAt, foundIn}
 use Rattle.serving.specs.declared.Opened.{Opened}
 use Rattle.serving.specs.declared.Opening.{Opening}
 use Rattle.serving.specs.declared.Closing.{Closing}
-use Rattle.serving.specs.declared.Asked.{Asked}
+use Rattle.serving.specs.declared.Brought.{Brought}
 use Rattle.serving.specs.declared.Paged.{Paged}
 use Rattle.serving.specs.Serving.{openRefusal, newSession, OpenedBy, OpenCall, standing, nameRefusal, ClosedBy, CloseCall, SessionPagedBy, SessionPageCall}
 use Rattle.serving.specs.Decided.{openingBy, openingOf, closingBy, closingOf, PagedAtBy, PagedAt}
@@ -41,11 +41,11 @@ close-call ss after place key s d f e stored = go (nameRefusal (standing ss plac
     go zero d e stored = (ap (λ (z : Closing). z .number) e, stored ∙ ap (λ (z : Closing). set ss place (z .session)) e)
     go (suc number) d e stored = (ap (λ (z : Closing). z .number) e, stored ∙ ap (λ (z : Closing). set ss place (z .session)) e ∙ set-getD ss place blank)
 
-pub page-call : (ss later : List Session) (place key : ℕ) (capture : List ℕ) (asked : Asked) (buffer after : List ℕ) (s : Session) (d : Paged) → s ≡ standing ss place
-    → PagedAt s (length ss) key capture asked buffer d after → later ≡ set ss place (d .session) → SessionPageCall ss place key capture asked buffer (d .answer) after later
-page-call ss later place key capture asked buffer after s d f said stored =
-    go (nameRefusal (standing ss place) (length ss) key) (subst (λ (z : Session). PagedAt z (length ss) key capture asked buffer d after) f said)
+pub page-call : (ss later : List Session) (place key : ℕ) (capture : List ℕ) (b : Brought) (buffer after : List ℕ) (s : Session) (d : Paged) → s ≡ standing ss place
+    → PagedAt s (length ss) key capture b buffer d after → later ≡ set ss place (d .session) → SessionPageCall ss place key capture b buffer (d .answer) after later
+page-call ss later place key capture b buffer after s d f said stored =
+    go (nameRefusal (standing ss place) (length ss) key) (subst (λ (z : Session). PagedAt z (length ss) key capture b buffer d after) f said)
   where
-    go : (number : ℕ) → PagedAtBy number (standing ss place) capture asked buffer d after → SessionPagedBy number ss place capture asked buffer (d .answer) after later
+    go : (number : ℕ) → PagedAtBy number (standing ss place) capture b buffer d after → SessionPagedBy number ss place capture b buffer (d .answer) after later
     go zero (call, moved) = (call, stored ∙ ap (λ (z : Session). set ss place z) moved)
     go (suc number) (a, kept, stood) = (a, kept, stored ∙ ap (λ (z : Session). set ss place z) stood ∙ set-getD ss place blank)

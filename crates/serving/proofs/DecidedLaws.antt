@@ -7,7 +7,7 @@ use Rattle.sessions.specs.declared.Session.{Session}
 use Rattle.sessions.specs.Sessions.{blank}
 use Rattle.call.specs.Call.{refused, next}
 use Rattle.paging.specs.Paging.{PageCall}
-use Rattle.serving.specs.declared.Asked.{Asked}
+use Rattle.serving.specs.declared.Brought.{Brought}
 use Rattle.serving.specs.declared.Opening.{Opening}
 use Rattle.serving.specs.declared.Closing.{Closing}
 use Rattle.serving.specs.declared.Paged.{Paged}
@@ -36,13 +36,13 @@ open-taken number refusal free places new e z = ap (λ (k : ℕ). openingBy k fr
 pub close-taken : (number refusal : ℕ) (s : Session) → number ≡ refusal → number ≡ 0 → closingAs blank 0 ≡ closingBy refusal s
 close-taken number refusal s e z = ap (λ (k : ℕ). closingBy k s) (sym z ∙ e)
 
-module _ (s : Session) (capture : List ℕ) (asked : Asked) (buffer : List ℕ) (p : Paged) (number refusal : ℕ) (e : number ≡ refusal) where
-  pub page-refused : (number ≡ 0 → ⊥) → p .answer ≡ refused number zeros → p .session ≡ s → PagedAtBy refusal s capture asked buffer p buffer
-  page-refused h a q = subst (λ (k : ℕ). PagedAtBy k s capture asked buffer p buffer) e (go number h a)
+module _ (s : Session) (capture : List ℕ) (b : Brought) (buffer : List ℕ) (p : Paged) (number refusal : ℕ) (e : number ≡ refusal) where
+  pub page-refused : (number ≡ 0 → ⊥) → p .answer ≡ refused number zeros → p .session ≡ s → PagedAtBy refusal s capture b buffer p buffer
+  page-refused h a q = subst (λ (k : ℕ). PagedAtBy k s capture b buffer p buffer) e (go number h a)
     where
-      go : (number : ℕ) → (number ≡ 0 → ⊥) → p .answer ≡ refused number zeros → PagedAtBy number s capture asked buffer p buffer
+      go : (number : ℕ) → (number ≡ 0 → ⊥) → p .answer ≡ refused number zeros → PagedAtBy number s capture b buffer p buffer
       go zero h a = absurd (h refl)
       go (suc number) h a = (a, refl, q)
 
-  pub page-taken : (after : List ℕ) → number ≡ 0 → PageCall capture (requestOf s asked) buffer (p .answer) after → p .session ≡ movedTo s (next (p .answer)) → PagedAtBy refusal s capture asked buffer p after
-  page-taken after z call q = subst (λ (k : ℕ). PagedAtBy k s capture asked buffer p after) (sym z ∙ e) (call, q)
+  pub page-taken : (after : List ℕ) → number ≡ 0 → PageCall capture (requestOf s b) buffer (p .answer) after → p .session ≡ movedTo s (next (p .answer)) → PagedAtBy refusal s capture b buffer p after
+  page-taken after z call q = subst (λ (k : ℕ). PagedAtBy k s capture b buffer p after) (sym z ∙ e) (call, q)

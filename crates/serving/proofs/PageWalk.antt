@@ -45,9 +45,9 @@ use denote.Exit.{yes}
 use Rattle.sessions.specs.declared.Session.{Session}
 use Rattle.sessions.specs.Sessions.{blank}
 use Rattle.call.specs.declared.Answer.{Answer}
-use Rattle.serving.specs.declared.Asked.{Asked}
+use Rattle.serving.specs.declared.Brought.{Brought}
 use Rattle.serving.specs.declared.Paged.{Paged}
-use Rattle.serving.specs.Serving.{asked, SessionPageCall}
+use Rattle.serving.specs.Serving.{brought, SessionPageCall}
 use Rattle.serving.specs.Decided.{PagedAt}
 use Rattle.sessions.proofs.Again.{LentAgain, lends-again, comes-back}
 use Rattle.sessions.proofs.Share.{LentShared, shares, unshares}
@@ -88,7 +88,7 @@ clauses 𝓤 H A mem run κs a = record {
   ghost = Unit {0};
   requires = λ _. connectives 𝓤 .⊤ₛ;
   ensures = λ _ r end. connectives 𝓤 .⌜_⌝ (SessionPageCall
-      (now (a .0)) (a .1 .0) (a .1 .1 .0) (now (a .1 .1 .1 .0)) (asked (a .1 .1 .1 .1 .0) (a .1 .1 .1 .1 .1 .0) (a .1 .1 .1 .1 .1 .1 .0)) (now (a .1 .1 .1 .1 .1 .1 .1 .0))
+      (now (a .0)) (a .1 .0) (a .1 .1 .0) (now (a .1 .1 .1 .0)) (brought (a .1 .1 .1 .1 .0) (a .1 .1 .1 .1 .1 .0) (a .1 .1 .1 .1 .1 .1 .0)) (now (a .1 .1 .1 .1 .1 .1 .1 .0))
       r (now (end .1 .1 .1 .1 .1 .1 .1 .0)) (now (end .0)));
 }
 
@@ -111,7 +111,7 @@ clauses-at 𝓤 H A mem run κs a = record {
   ghost = Unit {0};
   requires = λ _. connectives 𝓤 .⊤ₛ;
   ensures = λ _ r end. connectives 𝓤 .⌜_⌝ (PagedAt
-      (a .0) (a .1 .0) (a .1 .1 .0) (now (a .1 .1 .1 .0)) (asked (a .1 .1 .1 .1 .0) (a .1 .1 .1 .1 .1 .0) (a .1 .1 .1 .1 .1 .1 .0)) (now (a .1 .1 .1 .1 .1 .1 .1 .0))
+      (a .0) (a .1 .0) (a .1 .1 .0) (now (a .1 .1 .1 .0)) (brought (a .1 .1 .1 .1 .0) (a .1 .1 .1 .1 .1 .0) (a .1 .1 .1 .1 .1 .1 .0)) (now (a .1 .1 .1 .1 .1 .1 .1 .0))
       r (now (end .1 .1 .1 .1 .1 .1 .1 .0)));
 }
 
@@ -157,8 +157,8 @@ module _ {M : Type 1} (𝓤 : URA M) (H : Heap 𝓤) (A : Atoms 𝓤) (W : Given
   abbrev vs : Vals signature (κ, (κ₁, (κ₂, tt)))
   vs = (s ∷ [], (vint w64 place ∷ [], (vint w64 key ∷ [], (sc ∷ [], (vint w64 bits ∷ [], (vint w8 profile ∷ [], (vint w64 most ∷ [], (sb ∷ [], tt))))))))
 
-  abbrev asks : Asked
-  asks = asked bits profile most
+  abbrev brings : Brought
+  brings = brought bits profile most
 
   abbrev Post : Val → SProp 𝓤
   Post = walkOf 𝓤 H A ended stayed (clauses 𝓤 H A mem run) .post (((κ, (κ₁, (κ₂, tt))), (q, (q₁, (q₂, tt))), tt, a, vs), tt)
@@ -176,7 +176,7 @@ module _ {M : Type 1} (𝓤 : URA M) (H : Heap 𝓤) (A : Atoms 𝓤) (W : Given
   abbrev Had : List Session → List ℕ → List (Item 𝓤)
   Had zs bs′ = ‵ (MutSlice (named 0) κ T.the-row .own (x γ zs) (s ∷ [])) ∷ ‵ (flft κ q) ∷ Toks ∷ ‵ (finally u8 (buf .name) bs′) ∷ Cap ∷ []
 
-  exits : (zs : List Session) (bs′ : List ℕ) (m : Answer) → Is An.the-row m (aval m ∷ []) → length zs ≡ n → length bs′ ≡ length bs → SessionPageCall ys place key cs asks bs m bs′ zs → ent 𝓤 (⋆ 𝓤 H A (Had zs bs′)) (Post (aval m))
+  exits : (zs : List Session) (bs′ : List ℕ) (m : Answer) → Is An.the-row m (aval m ∷ []) → length zs ≡ n → length bs′ ≡ length bs → SessionPageCall ys place key cs brings bs m bs′ zs → ent 𝓤 (⋆ 𝓤 H A (Had zs bs′)) (Post (aval m))
   exits zs bs′ m is l lb e =
       qed W (Had zs bs′) ∵
       suffices ! _ (ends-at 𝓤 H A ended stayed (clauses 𝓤 H A mem run) W (((κ, (κ₁, (κ₂, tt))), (q, (q₁, (q₂, tt))), tt, a, vs), tt) (aval m) m (zs, (tt, (tt, (tt, (tt, (tt, (tt, (bs′, tt)))))))) (l, (tt, (tt, (tt, (tt, (tt, (tt, (lb, tt))))))))) $ says ! e $
@@ -200,7 +200,7 @@ module _ {M : Type 1} (𝓤 : URA M) (H : Heap 𝓤) (A : Atoms 𝓤) (W : Given
       owned ! T.the-row (Is T.the-row) (LL.makes T.the-type T′.the-plain 𝓤 H A) r _ is $ fjoin ! $ move ! (1 ∷ 0 ∷ []) $ join ! $ frame ! $ done !
 
   abbrev Page-said : Session → Paged → List ℕ → Type 0
-  Page-said r d bs′ = PagedAt r n key cs asks bs d bs′
+  Page-said r d bs′ = PagedAt r n key cs brings bs d bs′
 
   abbrev Lasts-of-page : Type 0
   Lasts-of-page = Unit {0} × (Unit {0} × (Unit {0} × (Unit {0} × (Unit {0} × (Unit {0} × (Unit {0} × (List ℕ × Unit {0})))))))
@@ -268,7 +268,7 @@ module _ {M : Type 1} (𝓤 : URA M) (H : Heap 𝓤) (A : Atoms 𝓤) (W : Given
         assigns ! (of-opd ! (load ! (from ! (fld ! refl (stop !))) (look-in ! 26 (sub ! 1 refl (whole !))))) (from ! (stop !)) (init ! 46 refl (LL.lawful An.the-type An′.the-laws 𝓤 H A W .typed (d .answer) _ (d-answer d is₂) .0)) $
         returns ! (see ! 46 refl) $ forget ! 10 refl $ forget ! 12 refl $ forget ! 14 refl $ forget ! 16 refl $ forget ! 18 refl $ forget ! 20 refl $ forget ! 22 refl $ forget ! 24 refl $ forget ! 26 refl $ forget ! 28 refl $ forget ! 30 refl $ forget ! 32 refl $ forget ! 34 refl $ forget ! 36 refl $ forget ! 38 refl $ forget ! 40 refl $ forget ! 42 refl $ forget ! 44 refl $ forget ! 46 refl $
         move ! (46 ∷ 47 ∷ []) $ free1 ! $ move ! (44 ∷ 45 ∷ []) $ free1 ! $ move ! (42 ∷ 43 ∷ []) $ free1 ! $ move ! (40 ∷ 41 ∷ []) $ free1 ! $ move ! (38 ∷ 39 ∷ []) $ free1 ! $ move ! (36 ∷ 37 ∷ []) $ free1 ! $ move ! (34 ∷ 35 ∷ []) $ free1 ! $ move ! (32 ∷ 33 ∷ []) $ free1 ! $ move ! (30 ∷ 31 ∷ []) $ free1 ! $ move ! (28 ∷ 29 ∷ []) $ free1 ! $ move ! (26 ∷ 27 ∷ []) $ free1 ! $ move ! (24 ∷ 25 ∷ []) $ free1 ! $ move ! (22 ∷ 23 ∷ []) $ free1 ! $ move ! (20 ∷ 21 ∷ []) $ free1 ! $ move ! (18 ∷ 19 ∷ []) $ free1 ! $ move ! (16 ∷ 17 ∷ []) $ free1 ! $ move ! (14 ∷ 15 ∷ []) $ free1 ! $ move ! (12 ∷ 13 ∷ []) $ free1 ! $ move ! (10 ∷ 11 ∷ []) $ free1 ! $ free0 ! $
-        keep ! (0 ∷ 1 ∷ 5 ∷ 6 ∷ 8 ∷ []) $ by ! (exits (zs .0) (ws .1 .1 .1 .1 .1 .1 .1 .0) (d .answer) (d-answer d is₂) l lb (page-call ys (zs .0) place key cs asks bs (ws .1 .1 .1 .1 .1 .1 .1 .0) r d e₁ e₂ e₃)))))))))))))))))))))))))))))))))))))))))
+        keep ! (0 ∷ 1 ∷ 5 ∷ 6 ∷ 8 ∷ []) $ by ! (exits (zs .0) (ws .1 .1 .1 .1 .1 .1 .1 .0) (d .answer) (d-answer d is₂) l lb (page-call ys (zs .0) place key cs brings bs (ws .1 .1 .1 .1 .1 .1 .1 .0) r d e₁ e₂ e₃)))))))))))))))))))))))))))))))))))))))))
 
 module _ {M : Type 1} (𝓤 : URA M) (H : Heap 𝓤) (A : Atoms 𝓤) (W : Given 𝓤 H A) (mem : Memory → SProp 𝓤) (run : Routine → Fun 𝓤) where
   page-walks : (#page-at : Name) (C : Calls 𝓤 H) (Λ : Loops 𝓤 H) → FmC 𝓤 H (W .laws) C → Triple 𝓤 (C #at) (At 𝓤 H A mem run) → Triple 𝓤 (C #page-at) (PageAt 𝓤 H A mem run) → Triple 𝓤 (C #store) (Store 𝓤 H A mem run)

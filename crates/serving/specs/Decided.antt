@@ -12,7 +12,7 @@ use Rattle.call.specs.Call.{next, refused}
 use Rattle.paging.specs.Paging.{PageCall}
 use Rattle.serving.specs.declared.Opening.{Opening}
 use Rattle.serving.specs.declared.Closing.{Closing}
-use Rattle.serving.specs.declared.Asked.{Asked}
+use Rattle.serving.specs.declared.Brought.{Brought}
 use Rattle.serving.specs.declared.Paged.{Paged}
 use Rattle.serving.specs.Serving.{openRefusal, newSession, openedAt, nameRefusal, requestOf, movedTo, zeros}
 
@@ -33,9 +33,9 @@ abbrev pub closingOf : Session → ℕ → ℕ → Closing
 closingOf s places key = closingBy (nameRefusal s places key) s
 
 -- paging: likewise
-abbrev pub PagedAtBy : ℕ → Session → List ℕ → Asked → List ℕ → Paged → List ℕ → Type 0
-PagedAtBy zero s capture asked buffer p after = PageCall capture (requestOf s asked) buffer (p .answer) after × (p .session ≡ movedTo s (next (p .answer)))
-PagedAtBy (suc number) s capture asked buffer p after = (p .answer ≡ refused (suc number) zeros) × (after ≡ buffer) × (p .session ≡ s)
+abbrev pub PagedAtBy : ℕ → Session → List ℕ → Brought → List ℕ → Paged → List ℕ → Type 0
+PagedAtBy zero s capture b buffer p after = PageCall capture (requestOf s b) buffer (p .answer) after × (p .session ≡ movedTo s (next (p .answer)))
+PagedAtBy (suc number) s capture b buffer p after = (p .answer ≡ refused (suc number) zeros) × (after ≡ buffer) × (p .session ≡ s)
 
-abbrev pub PagedAt : Session → ℕ → ℕ → List ℕ → Asked → List ℕ → Paged → List ℕ → Type 0
-PagedAt s places key capture asked buffer p after = PagedAtBy (nameRefusal s places key) s capture asked buffer p after
+abbrev pub PagedAt : Session → ℕ → ℕ → List ℕ → Brought → List ℕ → Paged → List ℕ → Type 0
+PagedAt s places key capture b buffer p after = PagedAtBy (nameRefusal s places key) s capture b buffer p after

@@ -15,7 +15,7 @@ use Rattle.call.specs.declared.PageRequest.{PageRequest}
 use Rattle.call.specs.Call.{pageRequest, next, refused}
 use Rattle.paging.specs.Paging.{PageCall}
 use Rattle.serving.specs.declared.Opened.{Opened}
-use Rattle.serving.specs.declared.Asked.{Asked}
+use Rattle.serving.specs.declared.Brought.{Brought}
 
 -- ---- opening
 -- the numbers of an opening, by what was found in a list of so many places: a list longer than 32; direction above 1; key already present; full, which is
@@ -64,12 +64,12 @@ abbrev pub CloseCall : List Session → ℕ → ℕ → ℕ → List Session →
 CloseCall ss place key number after = ClosedBy (nameRefusal (standing ss place) (length ss) key) ss place number after
 
 -- ---- paging
--- what a call asks: n, profile, most
-abbrev pub asked : ℕ → ℕ → ℕ → Asked
-asked n profile most = record { n = n; profile = profile; most = most }
+-- what a call brings: n, profile, most
+abbrev pub brought : ℕ → ℕ → ℕ → Brought
+brought n profile most = record { n = n; profile = profile; most = most }
 
 -- the page that is asked of a session: direction and cursor are the session's
-abbrev pub requestOf : Session → Asked → PageRequest
+abbrev pub requestOf : Session → Brought → PageRequest
 requestOf s a = pageRequest (a .n) (s .direction) (a .profile) (s .position) (s .context) (a .most)
 
 -- a session with another cursor
@@ -82,13 +82,13 @@ zeros = record { position = 0; context = 0 }
 
 -- by the number: the page that document 01 gives at the session's cursor, and the session stores the cursor that it answers; a refusal answers zeros, and
 -- buffer and list stand
-abbrev pub SessionPagedBy : ℕ → List Session → ℕ → List ℕ → Asked → List ℕ → Answer → List ℕ → List Session → Type 0
-SessionPagedBy zero ss place capture asked buffer a after later =
-    PageCall capture (requestOf (standing ss place) asked) buffer a after
+abbrev pub SessionPagedBy : ℕ → List Session → ℕ → List ℕ → Brought → List ℕ → Answer → List ℕ → List Session → Type 0
+SessionPagedBy zero ss place capture b buffer a after later =
+    PageCall capture (requestOf (standing ss place) b) buffer a after
     × (later ≡ set ss place (movedTo (standing ss place) (next a)))
-SessionPagedBy (suc number) ss place capture asked buffer a after later = (a ≡ refused (suc number) zeros) × (after ≡ buffer) × (later ≡ ss)
+SessionPagedBy (suc number) ss place capture b buffer a after later = (a ≡ refused (suc number) zeros) × (after ≡ buffer) × (later ≡ ss)
 
--- every request: the list, place and key, the capture's bytes, what is asked, the buffer; the answer, and buffer and list after it
-abbrev pub SessionPageCall : List Session → ℕ → ℕ → List ℕ → Asked → List ℕ → Answer → List ℕ → List Session → Type 0
-SessionPageCall ss place key capture asked buffer a after later =
-    SessionPagedBy (nameRefusal (standing ss place) (length ss) key) ss place capture asked buffer a after later
+-- every request: the list, place and key, the capture's bytes, what is brought besides, the buffer; the answer, and buffer and list after it
+abbrev pub SessionPageCall : List Session → ℕ → ℕ → List ℕ → Brought → List ℕ → Answer → List ℕ → List Session → Type 0
+SessionPageCall ss place key capture b buffer a after later =
+    SessionPagedBy (nameRefusal (standing ss place) (length ss) key) ss place capture b buffer a after later

@@ -31,7 +31,7 @@ pub struct Closing {
 }
 
 // What a call brings for a page besides the capture's bytes and the buffer; direction and cursor are the session's.
-pub struct Asked {
+pub struct Brought {
     pub n: u64,
     pub profile: u8,
     pub most: u64,
@@ -144,7 +144,7 @@ pub fn close_at(session: Session, places: usize, key: u64) -> Closing
 }
 
 // What is asked of a page, by the session and by the call.
-fn request(session: Session, a: Asked) -> PageRequest
+fn request(session: Session, a: Brought) -> PageRequest
     ensures { λ r. ⌜ r ≡ requestOf session a ⌝ }
 {
     call::page_request(
@@ -178,7 +178,7 @@ pub fn page_at(
     places: usize,
     key: u64,
     capture: &[u8],
-    a: Asked,
+    a: Brought,
     table: &[u8],
     buffer: &mut [u8],
 ) -> Paged

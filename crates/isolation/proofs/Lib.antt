@@ -1,0 +1,7 @@
+-- The laws of this crate.
+-- Assumes nothing.
+pub mod PlaceLaws
+pub mod OneLaws
+pub mod KeepLaws
+pub mod IsolationLaws
+pub mod DemandLaws
