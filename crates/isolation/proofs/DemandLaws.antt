@@ -7,7 +7,6 @@ use lib.ListN.{length}
 use Rattle.reading.specs.Reading.{Item, Reading}
 use Rattle.channel.specs.Frames.{Frame, rules}
 use Rattle.channel.specs.Record.{records}
-use Rattle.call.specs.declared.Answer.{Answer}
 use Rattle.call.specs.declared.CursorNumbers.{CursorNumbers}
 use Rattle.call.specs.Call.{cursorBy, next, pageRequest}
 use Rattle.paging.specs.Paging.{PageCall}

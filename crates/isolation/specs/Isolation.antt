@@ -8,7 +8,6 @@ use lib.ListN.{length}
 use Rattle.sessions.specs.declared.Session.{Session}
 use Rattle.sessions.specs.Sessions.{holds}
 use Rattle.call.specs.declared.Answer.{Answer}
-use Rattle.call.specs.declared.CursorNumbers.{CursorNumbers}
 use Rattle.call.specs.declared.TermNumbers.{TermNumbers}
 use Rattle.call.specs.Call.{next}
 use Rattle.paging.specs.Paging.{PageCall}

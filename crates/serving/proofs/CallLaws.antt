@@ -1,15 +1,14 @@
 -- The calls: each does what it decided, in the list.
 -- Assumes nothing.
-use mathlib.Core.Path.{_≡_, refl, sym, _∙_, ap, subst}
+use mathlib.Core.Path.{_≡_, _∙_, ap, subst}
 use mathlib.Core.List.{List}
 use Prim.Native.Nat.{ℕ, zero, suc}
 use native.Mathlib.Omega.{arith}
-use lib.ListN.{length, getD, set}
+use lib.ListN.{length, set}
 use lib.Seq.{set-out, set-getD}
 use Rattle.sessions.specs.declared.Session.{Session}
 use Rattle.sessions.specs.declared.Found.{Found}
 use Rattle.sessions.specs.Sessions.{blank, freeAt, foundIn}
-use Rattle.serving.specs.declared.Opened.{Opened}
 use Rattle.serving.specs.declared.Opening.{Opening}
 use Rattle.serving.specs.declared.Closing.{Closing}
 use Rattle.serving.specs.declared.Brought.{Brought}

@@ -1,10 +1,8 @@
 -- What the calls on sessions decide, by what stands at a place.
 -- Assumes nothing.
 use mathlib.Core.Path.{_≡_}
-use mathlib.Core.Bool.{cond}
 use mathlib.Core.List.{List}
 use Prim.Native.Nat.{ℕ, zero, suc}
-use lib.Dec.{eqb}
 use Rattle.sessions.specs.declared.Session.{Session}
 use Rattle.sessions.specs.declared.Found.{Found}
 use Rattle.sessions.specs.Sessions.{blank}

@@ -1,6 +1,5 @@
 -- `serving::open_in` meets its contract.
 -- Assumes nothing.
-use mathlib.Core.Path.{_≡_}
 use native.Mathlib.Omega.{arith}
 use borrow.Author.Needs.{needs}
 use Rattle.serving.specs.Serving.{openRefusal, newSession}
