@@ -2,8 +2,3 @@
 -- Assumes nothing.
 pub mod DecidedLaws
 pub mod CallLaws
-pub mod CallMir
-pub mod ListCalls
-pub mod OpenWalk
-pub mod CloseWalk
-pub mod PageWalk

@@ -1,6 +1,6 @@
--- `bellrope::bellrope_close` meets its contract: it is the closing that `serving` walks.
+-- `bellrope::bellrope_close` meets its contract: it is the closing that `walks` has.
 -- Assumes nothing.
-use Rattle.serving.proofs.CloseWalk.{close-met}
+use Rattle.walks.proofs.CloseWalk.{close-met}
 use Rattle.bellrope.proofs.bellrope_close.Key.{name}
 use Rattle.bellrope.proofs.bellrope_close.Statement as stated
 use Rattle.bellrope.proofs.bellrope_close.Code as code

@@ -1,6 +1,6 @@
--- `bellrope::bellrope_session_page` meets its contract: it is the page that `serving` walks, made by `page_at`.
+-- `bellrope::bellrope_session_page` meets its contract: it is the page that `walks` has, made by `page_at`.
 -- Assumes nothing.
-use Rattle.serving.proofs.PageWalk.{page-met}
+use Rattle.walks.proofs.PageWalk.{page-met}
 use Rattle.bellrope.proofs.page_at.Symbol as page-at
 use Rattle.bellrope.proofs.page_at.Met as page-at-thm
 use Rattle.bellrope.proofs.bellrope_session_page.Key.{name}

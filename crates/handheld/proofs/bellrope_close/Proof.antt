@@ -1,6 +1,6 @@
--- `handheld::bellrope_close` meets its contract: it is the closing that `serving` walks.
+-- `handheld::bellrope_close` meets its contract: it is the closing that `walks` has.
 -- Assumes nothing.
-use Rattle.serving.proofs.CloseWalk.{close-met}
+use Rattle.walks.proofs.CloseWalk.{close-met}
 use Rattle.handheld.proofs.bellrope_close.Key.{name}
 use Rattle.handheld.proofs.bellrope_close.Statement as stated
 use Rattle.handheld.proofs.bellrope_close.Code as code

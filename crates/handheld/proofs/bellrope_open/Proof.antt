@@ -1,6 +1,6 @@
--- `handheld::bellrope_open` meets its contract: it is the opening that `serving` walks.
+-- `handheld::bellrope_open` meets its contract: it is the opening that `walks` has.
 -- Assumes nothing.
-use Rattle.serving.proofs.OpenWalk.{open-met}
+use Rattle.walks.proofs.OpenWalk.{open-met}
 use Rattle.handheld.proofs.bellrope_open.Key.{name}
 use Rattle.handheld.proofs.bellrope_open.Statement as stated
 use Rattle.handheld.proofs.bellrope_open.Code as code

@@ -1,6 +1,6 @@
--- `handheld::bellrope_session_page` meets its contract: it is the page that `serving` walks, made by `page_at`.
+-- `handheld::bellrope_session_page` meets its contract: it is the page that `walks` has, made by `page_at`.
 -- Assumes nothing.
-use Rattle.serving.proofs.PageWalk.{page-met}
+use Rattle.walks.proofs.PageWalk.{page-met}
 use Rattle.handheld.proofs.page_at.Symbol as page-at
 use Rattle.handheld.proofs.page_at.Met as page-at-thm
 use Rattle.handheld.proofs.bellrope_session_page.Key.{name}

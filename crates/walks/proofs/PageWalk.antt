@@ -63,11 +63,11 @@ use Rattle.sessions.proofs.store.Symbol.{name as #store}
 use Rattle.sessions.proofs.store.Met as store-thm
 use Rattle.call.proofs.Answer as An
 use Rattle.call.proofs.Answer.Laws as An′
 use Rattle.serving.proofs.Paged as D
 use Rattle.serving.proofs.Paged.Laws as D′
 use Rattle.serving.proofs.CallLaws.{page-call}
-use Rattle.serving.proofs.CallMir.{pages}
-use Rattle.serving.proofs.ListCalls.{val, At, to-at, goes-at, at-said, Store, to-store, goes-store}
+use Rattle.walks.proofs.CallMir.{pages}
+use Rattle.walks.proofs.ListCalls.{val, At, to-at, goes-at, at-said, Store, to-store, goes-store}
 
 -- ---- the function
 abbrev signature : Signature

@@ -44,35 +44,35 @@ use denote.Triple.Walked.{says, Stays, stay-slice, stay-none, walkOf, goes-slice
 use denote.Exit.{yes}
 use Rattle.sessions.specs.declared.Session.{Session}
 use Rattle.sessions.specs.declared.Found.{Found}
 use Rattle.serving.specs.declared.Opened.{Opened}
 use Rattle.serving.specs.declared.Opening.{Opening}
 use Rattle.sessions.specs.Sessions.{foundIn}
 use Rattle.serving.specs.Serving.{OpenCall}
 use Rattle.serving.specs.Decided.{openingOf}
 use Rattle.sessions.proofs.Again.{LentAgain, lends-again, comes-back}
 use Rattle.sessions.proofs.Share.{LentShared, shares, unshares}
 use Rattle.sessions.proofs.Session as T
 use Rattle.sessions.proofs.Found as S
 use Rattle.sessions.proofs.Found.Laws as S′
 use Rattle.serving.proofs.Opened as O
 use Rattle.serving.proofs.Opened.Laws as O′
 use Rattle.serving.proofs.Opening as D
 use Rattle.serving.proofs.Opening.Laws as D′
 use Rattle.sessions.proofs.find as find
 use Rattle.sessions.proofs.find.Symbol as find-def
 use Rattle.sessions.proofs.find.Symbol.{name as #find}
 use Rattle.sessions.proofs.find.Met as find-thm
 use Rattle.serving.proofs.open_in as open-in
 use Rattle.serving.proofs.open_in.Symbol as open-in-def
 use Rattle.serving.proofs.open_in.Symbol.{name as #open-in}
 use Rattle.serving.proofs.open_in.Met as open-in-thm
 use Rattle.sessions.proofs.store as store
 use Rattle.sessions.proofs.store.Symbol as store-def
 use Rattle.sessions.proofs.store.Symbol.{name as #store}
 use Rattle.sessions.proofs.store.Met as store-thm
 use Rattle.serving.proofs.CallLaws.{open-call}
-use Rattle.serving.proofs.CallMir.{opens}
-use Rattle.serving.proofs.ListCalls.{val, Store, to-store, goes-store}
+use Rattle.walks.proofs.CallMir.{opens}
+use Rattle.walks.proofs.ListCalls.{val, Store, to-store, goes-store}
 
 -- ---- the function
 abbrev signature : Signature

@@ -59,15 +59,15 @@ use Rattle.sessions.proofs.store as store
 use Rattle.sessions.proofs.store.Symbol as store-def
 use Rattle.sessions.proofs.store.Symbol.{name as #store}
 use Rattle.sessions.proofs.store.Met as store-thm
 use Rattle.serving.proofs.Closing as D
 use Rattle.serving.proofs.Closing.Laws as D′
 use Rattle.serving.proofs.close_at as close-at
 use Rattle.serving.proofs.close_at.Symbol as close-at-def
 use Rattle.serving.proofs.close_at.Symbol.{name as #close-at}
 use Rattle.serving.proofs.close_at.Met as close-at-thm
 use Rattle.serving.proofs.CallLaws.{close-call}
-use Rattle.serving.proofs.CallMir.{closes}
-use Rattle.serving.proofs.ListCalls.{val, At, to-at, goes-at, at-said, Store, to-store, goes-store}
+use Rattle.walks.proofs.CallMir.{closes}
+use Rattle.walks.proofs.ListCalls.{val, At, to-at, goes-at, at-said, Store, to-store, goes-store}
 
 -- ---- the function
 abbrev signature : Signature
