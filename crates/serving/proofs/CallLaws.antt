@@ -47,4 +47,4 @@ page-call ss later place key capture b buffer after s d f said stored =
   where
     go : (number : ℕ) → PagedAtBy number (standing ss place) capture b buffer d after → SessionPagedBy number ss place capture b buffer (d .answer) after later
     go zero (call, moved) = (call, stored ∙ ap (λ (z : Session). set ss place z) moved)
-    go (suc number) (a, kept, stood) = (a, kept, stored ∙ ap (λ (z : Session). set ss place z) stood ∙ set-getD ss place blank)
+    go (suc number) (p, kept) = (ap (λ (z : Paged). z .answer) p, kept, stored ∙ ap (λ (z : Paged). set ss place (z .session)) p ∙ set-getD ss place blank)

@@ -5,14 +5,14 @@ use mathlib.Core.List.{List}
 use Prim.Native.Nat.{ℕ, zero, suc}
 use Rattle.sessions.specs.declared.Session.{Session}
 use Rattle.sessions.specs.Sessions.{blank}
-use Rattle.call.specs.Call.{refused, next}
+use Rattle.call.specs.Call.{next}
 use Rattle.paging.specs.Paging.{PageCall}
 use Rattle.serving.specs.declared.Brought.{Brought}
 use Rattle.serving.specs.declared.Opening.{Opening}
 use Rattle.serving.specs.declared.Closing.{Closing}
 use Rattle.serving.specs.declared.Paged.{Paged}
-use Rattle.serving.specs.Serving.{openedAt, requestOf, movedTo, zeros}
-use Rattle.serving.specs.Decided.{openingBy, closingBy, PagedAtBy}
+use Rattle.serving.specs.Serving.{openedAt, requestOf, movedTo}
+use Rattle.serving.specs.Decided.{openingBy, closingBy, refusedPage, PagedAtBy}
 
 abbrev openingAs : ℕ → Session → ℕ → ℕ → Opening
 openingAs place new number answered = record { place = place; session = new; opened = openedAt number answered }
@@ -37,12 +37,12 @@ pub close-taken : (number refusal : ℕ) (s : Session) → number ≡ refusal �
 close-taken number refusal s e z = ap (λ (k : ℕ). closingBy k s) (sym z ∙ e)
 
 module _ (s : Session) (capture : List ℕ) (b : Brought) (buffer : List ℕ) (p : Paged) (number refusal : ℕ) (e : number ≡ refusal) where
-  pub page-refused : (number ≡ 0 → ⊥) → p .answer ≡ refused number zeros → p .session ≡ s → PagedAtBy refusal s capture b buffer p buffer
-  page-refused h a q = subst (λ (k : ℕ). PagedAtBy k s capture b buffer p buffer) e (go number h a)
+  pub page-refused : (number ≡ 0 → ⊥) → p ≡ refusedPage s number → PagedAtBy refusal s capture b buffer p buffer
+  page-refused h q = subst (λ (k : ℕ). PagedAtBy k s capture b buffer p buffer) e (go number h q)
     where
-      go : (number : ℕ) → (number ≡ 0 → ⊥) → p .answer ≡ refused number zeros → PagedAtBy number s capture b buffer p buffer
-      go zero h a = absurd (h refl)
-      go (suc number) h a = (a, refl, q)
+      go : (number : ℕ) → (number ≡ 0 → ⊥) → p ≡ refusedPage s number → PagedAtBy number s capture b buffer p buffer
+      go zero h q = absurd (h refl)
+      go (suc number) h q = (q, refl)
 
   pub page-taken : (after : List ℕ) → number ≡ 0 → PageCall capture (requestOf s b) buffer (p .answer) after → p .session ≡ movedTo s (next (p .answer)) → PagedAtBy refusal s capture b buffer p after
   page-taken after z call q = subst (λ (k : ℕ). PagedAtBy k s capture b buffer p after) (sym z ∙ e) (call, q)

@@ -31,9 +31,12 @@ abbrev pub closingOf : Session → ℕ → ℕ → Closing
 closingOf s places key = closingBy (nameRefusal s places key) s
 
 -- paging: likewise
+abbrev pub refusedPage : Session → ℕ → Paged
+refusedPage s number = record { session = s; answer = refused number zeros }
+
 abbrev pub PagedAtBy : ℕ → Session → List ℕ → Brought → List ℕ → Paged → List ℕ → Type 0
 PagedAtBy zero s capture b buffer p after = PageCall capture (requestOf s b) buffer (p .answer) after × (p .session ≡ movedTo s (next (p .answer)))
-PagedAtBy (suc number) s capture b buffer p after = (p .answer ≡ refused (suc number) zeros) × (after ≡ buffer) × (p .session ≡ s)
+PagedAtBy (suc number) s capture b buffer p after = (p ≡ refusedPage s (suc number)) × (after ≡ buffer)
 
 abbrev pub PagedAt : Session → ℕ → ℕ → List ℕ → Brought → List ℕ → Paged → List ℕ → Type 0
 PagedAt s places key capture b buffer p after = PagedAtBy (nameRefusal s places key) s capture b buffer p after

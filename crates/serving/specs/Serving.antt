@@ -1,7 +1,7 @@
 -- Opening, paging and closing a session in a lent list (document 02, Ask 5).
 -- Assumes nothing.
 use mathlib.Core.Path.{_≡_}
-use mathlib.Core.Bool.{cond}
+use mathlib.Core.Bool.{Bool, cond}
 use mathlib.Core.List.{List}
 use Prim.Native.Nat.{ℕ, zero, suc}
 use lib.Dec.{eqb, ltb}
@@ -17,19 +17,28 @@ use Rattle.paging.specs.Paging.{PageCall}
 use Rattle.serving.specs.declared.Opened.{Opened}
 use Rattle.serving.specs.declared.Brought.{Brought}
 
+-- number 2, for a list of so many places: it is longer than 32
+abbrev pub tooLong : ℕ → Bool
+tooLong places = ltb 32 places
+
+-- the cursor of zeros
+abbrev pub zeros : CursorNumbers
+zeros = record { position = 0; context = 0 }
+
 -- ---- opening
 -- the numbers of an opening, by what was found in a list of so many places: a list longer than 32; direction above 1; key already present; full, which is
 -- no free place; 0 where none of them is given
 abbrev pub openRefusal : Found → ℕ → ℕ → ℕ
 openRefusal found places direction =
-    cond (ltb 32 places) 2
+    cond (tooLong places) 2
     (cond (ltb 1 direction) 1
     (cond (found .held) 9
     (cond (eqb (found .free) places) 8 0)))
 
 -- the session that opening stores: the cursor at bit 0, context 0
 abbrev pub newSession : ℕ → ℕ → ℕ → Session
-newSession key capture direction = record { used = 1; key = key; position = 0; context = 0; capture = capture; direction = direction }
+newSession key capture direction =
+    record { used = 1; key = key; position = zeros .position; context = zeros .context; capture = capture; direction = direction }
 
 abbrev pub openedAt : ℕ → ℕ → Opened
 openedAt number place = record { number = number; place = place }
@@ -51,7 +60,7 @@ standing ss place = getD ss place blank
 -- the numbers of a call that names a place and a key, by what stands there in a list of so many places: a list longer than 32; place outside the list, free
 -- or with another key; 0 where none of them is given
 abbrev pub nameRefusal : Session → ℕ → ℕ → ℕ
-nameRefusal s places key = cond (ltb 32 places) 2 (cond (holds s key) 0 10)
+nameRefusal s places key = cond (tooLong places) 2 (cond (holds s key) 0 10)
 
 -- ---- closing
 -- by the number: the place becomes free; a refusal leaves the list as it was
@@ -75,10 +84,6 @@ requestOf s a = pageRequest (a .n) (s .direction) (a .profile) (s .position) (s 
 -- a session with another cursor
 abbrev pub movedTo : Session → CursorNumbers → Session
 movedTo s c = record { used = s .used; key = s .key; position = c .position; context = c .context; capture = s .capture; direction = s .direction }
-
--- the cursor of zeros
-abbrev pub zeros : CursorNumbers
-zeros = record { position = 0; context = 0 }
 
 -- by the number: the page that document 01 gives at the session's cursor, and the session stores the cursor that it answers; a refusal answers zeros, and
 -- buffer and list stand

@@ -2,8 +2,8 @@
 ghost use mathlib.Core.Path.{_≡_};
 ghost use Rattle.dplaces.specs.DPlaces.{Lent};
 ghost use Rattle.call.specs.Call.{next};
-ghost use Rattle.serving.specs.Serving.{newSession, openRefusal, nameRefusal, requestOf, movedTo};
-ghost use Rattle.serving.specs.Decided.{openingOf, closingOf, PagedAt};
+ghost use Rattle.serving.specs.Serving.{tooLong, zeros, newSession, openRefusal, nameRefusal, requestOf, movedTo};
+ghost use Rattle.serving.specs.Decided.{openingOf, closingOf, refusedPage, PagedAt};
 use call::Answer;
 use call::CursorNumbers;
 use call::PageRequest;
@@ -43,25 +43,43 @@ pub struct Paged {
     pub answer: Answer,
 }
 
-// A session as opening makes it: the cursor at bit 0, context 0.
+// The cursor of zeros: bit 0, context 0.
+fn zeros() -> CursorNumbers
+    ensures { λ r. ⌜ r ≡ zeros ⌝ }
+{
+    CursorNumbers {
+        position: 0,
+        context: 0,
+    }
+}
+
+// A session as opening makes it, with the cursor of zeros.
 fn new_session(key: u64, capture: u64, direction: u64) -> Session
     ensures { λ r. ⌜ r ≡ newSession key capture direction ⌝ }
 {
+    let begin = zeros();
     Session {
         used: 1,
         key: key,
-        position: 0,
-        context: 0,
+        position: begin.position,
+        context: begin.context,
         capture: capture,
         direction: direction,
     }
+}
+
+// Number 2 for a list of so many places.
+fn too_long(places: usize) -> bool
+    ensures { λ r. ⌜ r ≡ tooLong places ⌝ }
+{
+    32 < places
 }
 
 // The number of an opening in a list of so many places: 2, 1, 9, 8 in this order, or 0.
 fn open_refusal(found: Found, places: usize, direction: u64) -> u64
     ensures { λ r. ⌜ r ≡ openRefusal found places direction ⌝ }
 {
-    if 32 < places {
+    if too_long(places) {
         return 2;
     }
     if 1 < direction {
@@ -107,7 +125,7 @@ pub fn open_in(found: Found, places: usize, key: u64, capture: u64, direction: u
 fn name_refusal(session: Session, places: usize, key: u64) -> u64
     ensures { λ r. ⌜ r ≡ nameRefusal session places key ⌝ }
 {
-    if 32 < places {
+    if too_long(places) {
         return 2;
     }
     if session.used == 0 {
@@ -171,8 +189,18 @@ fn moved(session: Session, a: Answer) -> Session
     }
 }
 
-// A page, by what stands at the place named in a list of so many places: the session keeps the cursor that is answered. Where there is no session of that
-// key the cursor answered is zeros: the one that stands there is somebody else's.
+// A page of a place that the key does not hold: it stands. The cursor answered is zeros, for what stands there is somebody else's.
+fn refused(stands: Session, number: u64) -> Paged
+    ensures { λ r. ⌜ r ≡ refusedPage stands number ⌝ }
+{
+    let answer = call::refuse(number, 0, zeros());
+    Paged {
+        session: stands,
+        answer: answer,
+    }
+}
+
+// A page, by what stands at the place named in a list of so many places: the session keeps the cursor that is answered.
 pub fn page_at(
     session: Session,
     places: usize,
@@ -185,16 +213,9 @@ pub fn page_at(
     requires { ⌜ Lent (now table) ⌝ }
     ensures { λ r. ⌜ PagedAt session places key (now (capture .entry)) a (now (buffer .entry)) r (now (buffer .exit)) ⌝ }
 {
-    let number = name_refusal(session, places, key);
-    if number != 0 {
-        let nobody = CursorNumbers {
-            position: 0,
-            context: 0,
-        };
-        return Paged {
-            session: session,
-            answer: call::refuse(number, 0, nobody),
-        };
+    let refusal = name_refusal(session, places, key);
+    if refusal != 0 {
+        return refused(session, refusal);
     }
     let answer = paging::page(capture, request(session, a), table, buffer);
     Paged {
