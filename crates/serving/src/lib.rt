@@ -79,16 +79,18 @@ fn too_long(places: usize) -> bool
 fn open_refusal(found: Found, places: usize, direction: u64) -> u64
     ensures { λ r. ⌜ r ≡ openRefusal found places direction ⌝ }
 {
+    let held = found.held;
+    let free = found.free;
     if too_long(places) {
         return 2;
     }
     if 1 < direction {
         return 1;
     }
-    if found.held {
+    if held {
         return 9;
     }
-    if found.free == places {
+    if free == places {
         return 8;
     }
     0
@@ -193,7 +195,8 @@ fn moved(session: Session, a: Answer) -> Session
 fn refused(stands: Session, number: u64) -> Paged
     ensures { λ r. ⌜ r ≡ refusedPage stands number ⌝ }
 {
-    let answer = call::refuse(number, 0, zeros());
+    let nowhere = zeros();
+    let answer = call::refuse(number, 0, nowhere);
     Paged {
         session: stands,
         answer: answer,

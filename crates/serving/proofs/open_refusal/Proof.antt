@@ -21,13 +21,13 @@ returns-3 c =
 
 returns-4 : tie.Need-returns-4
 returns-4 c =
-    let a = c .before .before .before .before .before .before .args in
-    rw (sym (c .before .before .before .before .before .too-long .ensures) ∙ c .before .before .before .before .if1 .left, le-ltb 1 (a .direction) (c .before .before .before .if2 .left), c .before .before .if3 .left, eq-eqb (a .found .free) (a .places) (c .if4 .taken))
+    let a = c .before .before .before .before .before .args in
+    rw (sym (c .before .before .before .before .too-long .ensures) ∙ c .before .before .before .if1 .left, le-ltb 1 (a .direction) (c .before .before .if2 .left), c .before .if3 .left, eq-eqb (a .found .free) (a .places) (c .if4 .taken))
 
 returns-5 : tie.Need-returns-5
 returns-5 c =
-    let a = c .before .before .before .before .before .before .args in
-    rw (sym (c .before .before .before .before .before .too-long .ensures) ∙ c .before .before .before .before .if1 .left, le-ltb 1 (a .direction) (c .before .before .before .if2 .left), c .before .before .if3 .left, ne-eqb (a .found .free) (a .places) (c .if4 .left))
+    let a = c .before .before .before .before .before .args in
+    rw (sym (c .before .before .before .before .too-long .ensures) ∙ c .before .before .before .if1 .left, le-ltb 1 (a .direction) (c .before .before .if2 .left), c .before .if3 .left, ne-eqb (a .found .free) (a .places) (c .if4 .left))
 
 pub open-refusal-spec : {M : Type 1} → statement M
 open-refusal-spec = tie.close (tie.spec (λ c κs. search needs) returns returns-2 returns-3 returns-4 returns-5)
