@@ -18,7 +18,8 @@ use Rattle.paging.specs.Paging.{PageCall}
 use Rattle.paging.proofs.HarvestLaws.{answer-one}
 use Rattle.serving.specs.declared.Opened.{Opened}
 use Rattle.serving.specs.Serving.{openRefusal, newSession, openedAt, OpenedBy, OpenCall, standing, nameRefusal, ClosedBy, CloseCall, requestOf, movedTo}
-use Rattle.isolation.specs.Isolation.{Ask, Visit, Turn, mine, other, Happened, Others, visits, asks, Alone, Holds}
+use Rattle.isolation.specs.Isolation.{Ask, Visit, Turn, mine, other, Happened, Others, visits, asks, Alone}
+use Rattle.isolation.specs.Held.{Holds}
 use Rattle.isolation.proofs.PlaceLaws.{free-le, lowest-is, held-within, name-passed, name-taken}
 use Rattle.isolation.proofs.KeepLaws.{call-keeps, page-goes, still-holds}
 

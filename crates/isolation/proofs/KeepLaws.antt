@@ -13,7 +13,8 @@ use Rattle.sessions.specs.Sessions.{blank, isFree, holds, freeAt, foundIn}
 use Rattle.call.specs.Call.{next}
 use Rattle.paging.specs.Paging.{PageCall}
 use Rattle.serving.specs.Serving.{openRefusal, newSession, OpenedBy, standing, nameRefusal, ClosedBy, requestOf, movedTo, SessionPagedBy}
-use Rattle.isolation.specs.Isolation.{Visit, Call, opens, pages, closes, keyOf, Made, Holds}
+use Rattle.isolation.specs.Isolation.{Visit, Call, opens, pages, closes, keyOf, Made}
+use Rattle.isolation.specs.Held.{Holds}
 use Rattle.isolation.proofs.PlaceLaws.{free-is, held-taken, held-key, held-within, name-passed, name-taken}
 
 -- what stands at a place, in a list as long

@@ -15,7 +15,7 @@ use Rattle.sessions.specs.declared.Session.{Session}
 use Rattle.sessions.specs.Sessions.{blank, isFree, holds, freeAt}
 use Rattle.call.proofs.NumberLaws.{passed}
 use Rattle.serving.specs.Serving.{standing, nameRefusal}
-use Rattle.isolation.specs.Isolation.{Holds}
+use Rattle.isolation.specs.Held.{Holds}
 
 -- ---- the lowest free place
 pub free-le : (ss : List Session) → freeAt ss ≤ length ss

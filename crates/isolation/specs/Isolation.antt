@@ -1,12 +1,9 @@
 -- One session among the calls of others on the same list (document 02, Ask 5).
 -- Assumes nothing.
 use mathlib.Core.Path.{_≡_}
-use mathlib.Core.Bool.{true}
 use mathlib.Core.List.{List, [], _∷_, map}
-use Prim.Native.Nat.{ℕ, _≤_}
-use lib.ListN.{length}
+use Prim.Native.Nat.{ℕ}
 use Rattle.sessions.specs.declared.Session.{Session}
-use Rattle.sessions.specs.Sessions.{holds}
 use Rattle.call.specs.declared.Answer.{Answer}
 use Rattle.call.specs.declared.TermNumbers.{TermNumbers}
 use Rattle.call.specs.Call.{next}
@@ -14,7 +11,7 @@ use Rattle.paging.specs.Paging.{PageCall}
 use Rattle.paging.specs.Harvest.{Asked}
 use Rattle.serving.specs.declared.Opened.{Opened}
 use Rattle.serving.specs.declared.Brought.{Brought}
-use Rattle.serving.specs.Serving.{OpenCall, standing, CloseCall, requestOf, movedTo, SessionPageCall}
+use Rattle.serving.specs.Serving.{OpenCall, CloseCall, requestOf, movedTo, SessionPageCall}
 
 -- a page that is asked of a session: the bytes and n that its capture number means, profile and most, the buffer
 pub record Ask : Type 0 where
@@ -80,11 +77,6 @@ Alone s [] after = after ≡ s
 Alone s (v ∷ vs) after =
     PageCall (v .ask .capture) (requestOf s (v .ask .brought)) (v .ask .buffer) (v .answer) (v .after)
     × Alone (movedTo s (next (v .answer))) vs after
-
--- the key holds the place, in a list that number 2 does not refuse
-pub record Holds (ss : List Session) (place key : ℕ) : Type 0 where
-  pub short : length ss ≤ 32
-  pub held : holds (standing ss place) key ≡ true
 
 -- ---- demand 3, read per session
 -- each page is of the same capture, n and profile, and none is refused

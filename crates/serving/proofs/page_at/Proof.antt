@@ -11,7 +11,7 @@ returns : tie.Need-returns
 returns c =
     let a = c .before .before .before .before .before .before .args in
     let refusal = c .before .before .name-refusal in
-    page-refused (a .session) (a .capture .now) (a .a) (a .buffer .now) (c .refused .result) (refusal .result) (nameRefusal (a .session) (a .places) (a .key)) (refusal .ensures) (c .before .if1 .taken) (c .refused .ensures)
+    page-refused (a .session) (a .capture .now) (a .a) (a .buffer .now) (c .refused .result) (refusal .result) (nameRefusal (a .session) (a .places) (a .key)) (refusal .ensures) (λ z. omega (arith, c .before .if1 .taken, z)) (c .refused .ensures)
 
 page-requires : tie.Need-page-requires
 page-requires c κs = c .before .before .before .before .before .before .before .pre
