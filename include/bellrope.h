@@ -335,8 +335,8 @@ static inline bellrope_answer bellrope_session_settled(
 	if (sessions_len <= BELLROPE_SESSIONS_MOST && place < sessions_len) {
 		bellrope_answer answer;
 		ahead = sessions[place];
-		answer = bellrope_session_page(&ahead, 1, 0, key, capture, capture_len, n, profile, most,
-		                               buffer, buffer_len);
+		answer = bellrope_session_page(&ahead, 1, 0, key, capture, capture_len, n, profile,
+		                               most, buffer, buffer_len);
 		if (answer.number != BELLROPE_TAKEN) return answer;
 		if (answer.position == n) {
 			most = answer.items - 1;
