@@ -338,15 +338,17 @@ static inline bellrope_answer bellrope_session_settled(
 		answer = bellrope_session_page(&ahead, 1, 0, key, capture, capture_len, n, profile,
 		                               most, buffer, buffer_len);
 		if (answer.number != BELLROPE_TAKEN) return answer;
-		if (answer.position == n) {
-			most = answer.items - 1;
-			if (answer.items <= 1) {
-				answer.items = answer.bytes = 0;
-				answer.position = sessions[place].position;
-				answer.context = sessions[place].context;
-				return answer;
-			}
+		if (answer.position != n) {
+			sessions[place] = ahead;
+			return answer;
 		}
+		if (answer.items <= 1) {
+			answer.items = answer.bytes = 0;
+			answer.position = sessions[place].position;
+			answer.context = sessions[place].context;
+			return answer;
+		}
+		most = answer.items - 1;
 	}
 	return bellrope_session_page(sessions, sessions_len, place, key, capture, capture_len, n,
 	                             profile, most, buffer, buffer_len);
