@@ -41,9 +41,10 @@ typedef struct {
 	bellrope_answer answer;                 /* to that harvest */
 } recording;
 
-/* A client. It has no cursor, only what it was told: the place. */
+/* A client. It has no cursor. */
 typedef struct {
-	uint64_t key, capture, place;
+	uint64_t key, capture;
+	uint64_t place;         /* the last that it was told; at first one that no table has */
 	int holds, waits, done; /* whether it has a session, whether it found the table full, whether it has ended */
 	int same;               /* whether all was as it should be so far */
 	uint64_t begun, waited, pages, items, bytes;
@@ -89,10 +90,11 @@ static uint64_t serve_close(server *s, uint64_t place, uint64_t key) {
 
 /* The clients' part. Each of these answers the number of a refusal that should not be, or 0. */
 
-/* Opens a session, or waits. One that had a session before asks for a page of it first: its place is free or another's by now, so it must get none. */
+/* Opens a session, or waits. Before that it asks for a page by the place that it had last: that one is free or another's by now, or at first outside the
+ * table, so it must get none. */
 static uint64_t begin(server *s, harvester *h) {
 	uint8_t page[BELLROPE_RECORD_MOST];
-	if (h->begun != 0 && serve_page(s, h->place, h->key, 1, page, sizeof page).number != BELLROPE_NO_SESSION) h->same = 0;
+	if (serve_page(s, h->place, h->key, 1, page, sizeof page).number != BELLROPE_NO_SESSION) h->same = 0;
 	bellrope_opened opened = serve_open(s, h->key, h->capture);
 	if (opened.number == BELLROPE_FULL) {
 		h->waits = 1;
@@ -238,7 +240,8 @@ static int prepare(server *s, const request *r) {
 		status = load(&s->captures[i], r->files[i]);
 		s->captures[i].n = r->grow ? 0 : s->captures[i].all;
 	}
-	for (size_t i = 0; i < s->harvester_count; i++) s->harvesters[i] = (harvester){.key = FIRST_KEY + i, .capture = i % s->capture_count, .same = 1};
+	for (size_t i = 0; i < s->harvester_count; i++)
+		s->harvesters[i] = (harvester){.key = FIRST_KEY + i, .capture = i % s->capture_count, .place = UINT32_MAX, .same = 1};
 	return status;
 }
 
