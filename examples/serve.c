@@ -32,7 +32,6 @@ enum {
 
 /* A capture of the server. */
 typedef struct {
-	const char *file;
 	uint64_t direction;
 	uint8_t bytes[BELLROPE_BYTES_MOST + 1]; /* one more than a capture may have: the library then refuses it */
 	uint64_t all;                           /* how many bits there will be */
