@@ -72,12 +72,14 @@ static bellrope_opened serve_open(server *s, uint64_t key, uint64_t capture) {
 }
 
 /* The place tells which capture to bring. Where it is outside the table or free it tells none, and any will do: the call is refused whatever is brought, as
- * it is for another key's. While a capture is recorded, only what is settled is handed out: a cursor behind the rest would not stay good. */
+ * it is for another key's. While a capture is recorded, only what is settled is handed out: a cursor behind the rest would not stay good. The profile is 0
+ * throughout. */
 static bellrope_answer serve_page(server *s, uint64_t place, uint64_t key, uint64_t most, uint8_t *page, size_t length) {
 	int taken = place < s->places && s->table[place].used;
 	const recording *r = &s->captures[taken ? s->table[place].capture : 0];
-	return (r->n < r->all ? bellrope_session_settled : bellrope_session_page)(s->table, s->places, place, key, r->bytes, (size_t)(r->n + 7) / 8, r->n, 0,
-	                                                                          most, page, length);
+	size_t bytes = (size_t)(r->n + 7) / 8;
+	if (r->n < r->all) return bellrope_session_settled(s->table, s->places, place, key, r->bytes, bytes, r->n, 0, most, page, length);
+	return bellrope_session_page(s->table, s->places, place, key, r->bytes, bytes, r->n, 0, most, page, length);
 }
 
 /* A place freed is news for those that wait. */
