@@ -1,12 +1,20 @@
 # awk -f bench/report.awk COUNTS: the tables of docs/BENCH.md from what bench/run counted. With -v check=1 instead: what is above its limit, a line each,
 # and a failure if there is any. A line of COUNTS is a name, what of it, and a value; instructions are "NAME READER-BYTES VALUE". Where the bytes are the
-# octets of a timeslot, there is a line for each channel, and the largest value counts.
+# octets of a timeslot, there is a line for each channel, and the largest value counts. Of sessions the instructions are "NAME HOW VALUE".
 
 # A row: its name, the most instructions a bit (of a timeslot: an octet), those of the library when it first landed (345e7b7), and its title.
 function row(name, most, was, words) {
 	names[++rows] = name
 	limit[name] = most
 	first[name] = was
+	title[name] = words
+}
+
+# A row of sessions: its name, what it is counted for (pages, records or pairs), the most instructions more than without a session, and its title.
+function session(name, per, most, words) {
+	session_names[++sessions] = name
+	pieces[name] = per
+	limit[name] = most
 	title[name] = words
 }
 
@@ -33,6 +41,10 @@ BEGIN {
 	row("put", 5, "", "a channel put back")
 	for (i = bitwise + 1; i <= rows; i++) channels[names[i]] = 8
 
+	session("session-page", "pages", 100, "a page of 4,096 bytes")
+	session("session-record", "records", 100, "a page of one record")
+	session("session-open", "pairs", 600, "a session opened and closed")
+
 	# Bytes of stack, and by how many per cent the values for other sizes of captures and timeslots may differ from the value for 65,536.
 	stack_limit = 16384
 	growth_limit = 5
@@ -45,6 +57,15 @@ BEGIN {
 # Instructions for each bit of a capture, or for each octet of a timeslot.
 function each(name, reader, bytes) {
 	return of[name, reader "-" bytes] / (name in channels ? bytes : 8 * bytes)
+}
+
+# Instructions for each page, or each pair of opening and closing: by a session, or alone, without one.
+function by(name, how) {
+	return of[name, how] / of["session", pieces[name]]
+}
+
+function more(name) {
+	return by(name, "session") - by(name, "alone")
 }
 
 # How many bytes a row is about: what is written back ends with a frame.
@@ -92,6 +113,13 @@ function check_row(name) {
 	above(title[name], each(name, "library", bytes_of(name)), limit[name], "instructions " (name in channels ? "an octet" : "a bit"))
 }
 
+function check_session(name) {
+	check_counted("sessions, " title[name], "session", pieces[name])
+	check_counted("sessions, " title[name], name, "session")
+	if (name != "session-open") check_counted("sessions, " title[name] " alone", name, "alone")
+	above("sessions, " title[name], more(name), limit[name], "instructions more")
+}
+
 function check_stack(call) {
 	check_counted("stack of " call, "stack", call)
 	above("stack of " call, of["stack", call], stack_limit, "bytes")
@@ -99,12 +127,16 @@ function check_stack(call) {
 
 function check_all(i) {
 	for (i = 1; i <= rows; i++) check_row(names[i])
+	for (i = 1; i <= sessions; i++) check_session(session_names[i])
 	above("growth", capture_growth(), growth_limit, "% off the 64 KiB value")
 	above("growth of a timeslot", timeslot_growth(), growth_limit, "% off the value for 65,536 octets")
 	check_stack("paging")
 	check_stack("writing")
 	check_stack("taking")
 	check_stack("putting")
+	check_stack("opening")
+	check_stack("session")
+	check_stack("closing")
 	exit failed
 }
 
@@ -199,17 +231,39 @@ function timeslots(i) {
 	print "  byte: they are the same, byte for byte."
 }
 
+function session_row(name) {
+	printf "| %s |", title[name]
+	if (name == "session-open") printf " | | |"
+	else printf " %d | %.0f | %.0f |", of["session", pieces[name]], by(name, "session"), by(name, "alone")
+	printf " %.0f | %s |\n", more(name), limit[name]
+}
+
+function session_table(i) {
+	print "\n## Sessions\n"
+	print "Here the numbers are counted x86-64 instructions for each page: by a session, in the last place of a full list of 32, and by `bellrope_page`"
+	print "alone. The limit is on what a session costs more. Its opening, where only the last place is free, and its closing are counted together.\n"
+	print "| Call | How many | By a session | Alone | More | Limit |"
+	print "|---|---:|---:|---:|---:|---:|"
+	for (i = 1; i <= sessions; i++) session_row(session_names[i])
+	print ""
+	print "- Start-up is not in the numbers: they are two harvests less one, or two pairs less one."
+	print "- The capture is that of the first row. Each run compares the pages of the two: they are the same, byte for byte."
+}
+
 function stacks() {
 	print "\n## Stack\n"
-	printf "Paging took %d bytes of stack and writing %d, taking a channel out %d and putting one back %d, %d being allowed. They ran on stacks\n",
-		of["stack", "paging"], of["stack", "writing"], of["stack", "taking"], of["stack", "putting"], stack_limit
-	print "painted before, paging and writing with these captures and those of tests/list, and so far down the paint was gone."
+	printf "Paging took %d bytes of stack and writing %d, taking a channel out %d and putting one back %d, opening a session %d, paging by one %d\n",
+		of["stack", "paging"], of["stack", "writing"], of["stack", "taking"], of["stack", "putting"], of["stack", "opening"], of["stack", "session"]
+	printf "and closing it %d, %d being allowed. They ran on stacks painted before, paging and writing with these captures and those of tests/list,\n",
+		of["stack", "closing"], stack_limit
+	print "and so far down the paint was gone."
 }
 
 function tables() {
 	harvests()
 	growths()
 	timeslots()
+	session_table()
 	stacks()
 }
 

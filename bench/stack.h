@@ -4,7 +4,7 @@
 
 #include <stddef.h>
 
-#define STACKS 2
+#define STACKS 3
 
 /* To be called once, before anything else. */
 void paint_stacks(void);

@@ -62,8 +62,8 @@ enum {
 enum bellrope_direction { BELLROPE_UPLINK = 0, BELLROPE_DOWNLINK = 1 };
 
 /* The number of an answer. One above 0 is given exactly when what it says holds; if several hold,
- * the lowest, but for 4 to 6 see writing, 7 and 10 come before all others (10 only behind 2 for the
- * list), and 9 before 8. */
+ * the lowest, but for 4 to 6 see writing, 2 for a list of sessions comes before all others, then 7
+ * and 10 do, and 9 comes before 8. */
 enum bellrope_number {
 	BELLROPE_TAKEN = 0,       /* not refused */
 	BELLROPE_BAD_REQUEST = 1, /* direction above 1, most 0, or too many bytes of records */
@@ -327,20 +327,28 @@ static inline bellrope_answer bellrope_session_settled(
 	bellrope_session *sessions, size_t sessions_len, uint64_t place, uint64_t key,
 	const uint8_t *capture, size_t capture_len, uint64_t n, uint8_t profile, uint64_t most,
 	uint8_t *buffer, size_t buffer_len) {
+	uint8_t none = 0;
+	bellrope_session ahead;
+	if (sessions_len == 0) sessions = &ahead;
+	if (capture_len == 0) capture = &none;
+	if (buffer_len == 0) buffer = &none;
 	if (sessions_len <= BELLROPE_SESSIONS_MOST && place < sessions_len) {
-		bellrope_session ahead = sessions[place];
-		bellrope_answer answer = bellrope_session_page(&ahead, 1, 0, key, capture, capture_len, n,
-		                                               profile, most, buffer, buffer_len);
+		bellrope_answer answer;
+		ahead = sessions[place];
+		answer = bellrope_session_page(&ahead, 1, 0, key, capture, capture_len, n, profile,
+		                               most, buffer, buffer_len);
 		if (answer.number != BELLROPE_TAKEN) return answer;
-		if (answer.position == n) {
-			most = answer.items - 1;
-			if (answer.items <= 1) {
-				answer.items = answer.bytes = 0;
-				answer.position = sessions[place].position;
-				answer.context = sessions[place].context;
-				return answer;
-			}
+		if (answer.position != n) {
+			sessions[place] = ahead;
+			return answer;
 		}
+		if (answer.items <= 1) {
+			answer.items = answer.bytes = 0;
+			answer.position = sessions[place].position;
+			answer.context = sessions[place].context;
+			return answer;
+		}
+		most = answer.items - 1;
 	}
 	return bellrope_session_page(sessions, sessions_len, place, key, capture, capture_len, n,
 	                             profile, most, buffer, buffer_len);

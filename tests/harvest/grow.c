@@ -1,6 +1,7 @@
-/* grow FILE..: capture files harvested while they grow, by bellrope_settled. n goes from 0 to all bits of a file by steps of a generator, from one bit
- * to many frames. At each n all that is settled is taken, by pages of many sizes. What was taken so far must then be the records of a harvest of the
- * capture at this n without the last of them, and at the end, with the rest by bellrope_next, those of the whole, byte for byte. */
+/* grow FILE..: capture files harvested while they grow, by bellrope_settled, or by a session and bellrope_session_settled. n goes from 0 to all bits of a
+ * file by steps of a generator, from one bit to many frames. At each n all that is settled is taken, by pages of many sizes. What was taken so far must
+ * then be the records of a harvest of the capture at this n without the last of them, and at the end, with the rest by bellrope_next or
+ * bellrope_session_page, those of the whole, byte for byte. */
 #include "bellrope.h"
 
 #include <inttypes.h>
@@ -9,6 +10,8 @@
 
 enum {
 	SEEDS = 16,
+	PLACES = 3,           /* of the list of sessions, all taken */
+	PLACE = 1, KEY = 7,   /* of the session that harvests */
 	SHORT = 8 * 1000,     /* bits: a capture up to here is held against a harvest at every n, a longer one at some */
 	RECORDS_MOST = 131072 /* bytes: no capture gives more; 39 in 161 bits, a gap of one bit and 6,70, are the most */
 };
@@ -21,19 +24,25 @@ typedef struct {
 	const uint8_t *bits;               /* all that will come */
 	uint64_t all;                      /* how many they are */
 	int inverted;                      /* whether the bits lent behind n are not those to come */
+	int by_session;                    /* whether a session keeps the cursor */
 	uint8_t lent[BELLROPE_BYTES_MOST]; /* the bytes of the capture */
 	bellrope_capture capture;
 	bellrope_cursor cursor;
 	uint8_t taken[RECORDS_MOST];
 	size_t bytes; /* of them */
+	bellrope_session sessions[PLACES];
 } growth;
+
+typedef bellrope_answer session_paging(bellrope_session *, size_t, uint64_t, uint64_t, const uint8_t *, size_t, uint64_t, uint8_t, uint64_t, uint8_t *,
+                                       size_t);
 
 static int failures;
 
 static void hold(const growth *g, int so, const char *what) {
 	if (so) return;
 	failures++;
-	printf("%s, seed %u%s, n = %" PRIu64 ": not so: %s\n", g->file, g->seed, g->inverted ? " and other bits behind n" : "", g->capture.n, what);
+	printf("%s, seed %u%s%s, n = %" PRIu64 ": not so: %s\n", g->file, g->seed, g->inverted ? " and other bits behind n" : "",
+	       g->by_session ? ", by a session" : "", g->capture.n, what);
 }
 
 /* A number below `below`, by splitmix64. */
@@ -66,14 +75,33 @@ static uint64_t step(growth *g) {
 	return bits < left ? bits : left;
 }
 
-/* Takes page after page, by `next`, until one has no item. */
-static void take(growth *g, bellrope_answer (*next)(bellrope_capture, bellrope_cursor *, uint64_t, uint8_t *, size_t)) {
+/* All places of the list are taken, those beside the harvest's too. */
+static void open_sessions(growth *g) {
+	memset(g->sessions, 0, sizeof g->sessions);
+	for (uint64_t place = 0; place < PLACES; place++) {
+		bellrope_opened opened = bellrope_open(g->sessions, PLACES, KEY + place - PLACE, 0, g->capture.direction);
+		hold(g, opened.number == BELLROPE_TAKEN && opened.place == place, "the session is opened");
+	}
+}
+
+/* A page by the session. The cursor is a copy of the one that it keeps. */
+static bellrope_answer session_page(growth *g, session_paging *call, uint64_t most, uint8_t *page, size_t length) {
+	bellrope_capture c = g->capture;
+	bellrope_answer answer = call(g->sessions, PLACES, PLACE, KEY, c.bytes, c.length, c.n, c.profile, most, page, length);
+	g->cursor.position = g->sessions[PLACE].position;
+	g->cursor.context = g->sessions[PLACE].context;
+	return answer;
+}
+
+/* Takes page after page, what is settled or all, until one has no item. */
+static void take(growth *g, int all) {
 	uint8_t page[4096];
 	bellrope_answer answer;
 	do {
 		uint64_t most = draw(g, 2) ? UINT64_MAX : 1 + draw(g, 4);
 		size_t length = BELLROPE_RECORD_MOST + (size_t)draw(g, draw(g, 2) ? 100 : sizeof page - BELLROPE_RECORD_MOST + 1);
-		answer = next(g->capture, &g->cursor, most, page, length);
+		if (g->by_session) answer = session_page(g, all ? bellrope_session_page : bellrope_session_settled, most, page, length);
+		else answer = (all ? bellrope_next : bellrope_settled)(g->capture, &g->cursor, most, page, length);
 		hold(g, answer.number == BELLROPE_TAKEN && answer.index == 0, "the page is taken");
 		hold(g, answer.items <= most && answer.bytes <= length && (answer.items == 0) == (answer.bytes == 0), "the page keeps to its counts");
 		hold(g, answer.position == g->cursor.position && answer.context == g->cursor.context, "the cursor is the one answered");
@@ -104,17 +132,18 @@ static void grow(growth *g) {
 	g->state = g->seed;
 	g->bytes = 0;
 	g->cursor = bellrope_begin();
+	open_sessions(g);
 	g->capture.n = 0;
 	g->capture.profile = (uint8_t)(g->seed == 0 ? 0 : draw(g, 256));
 	for (uint64_t i = 0; i < g->all / 8; i++) g->lent[i] = (uint8_t)(g->inverted ? ~g->bits[i] : g->bits[i]);
 	for (uint64_t n = 0;; n += step(g)) {
 		grow_to(g, n);
-		take(g, bellrope_settled);
+		take(g, 0);
 		if (g->all <= SHORT || draw(g, g->all / SHORT) == 0) compare(g, 0);
 		if (failures != 0) return;
 		if (n == g->all) break;
 	}
-	take(g, bellrope_next);
+	take(g, 1);
 	hold(g, g->cursor.position == g->all, "the rest goes to n");
 	compare(g, 1);
 }
@@ -133,9 +162,10 @@ int main(int argc, char **argv) {
 		g.bits = bytes + 1;
 		g.all = 8 * (uint64_t)(len - 1);
 		g.capture = bellrope_capture_of(g.lent, len - 1, 0, bytes[0]);
-		for (unsigned turn = 0; turn < 2 * SEEDS; turn++) {
-			g.seed = turn / 2;
+		for (unsigned turn = 0; turn < 4 * SEEDS; turn++) {
+			g.seed = turn / 4;
 			g.inverted = (int)(turn % 2);
+			g.by_session = (int)(turn / 2 % 2);
 			grow(&g);
 			if (failures != 0) return 1;
 		}

@@ -1,5 +1,5 @@
-/* The names of bellrope.h held against the library's four calls: the layout of an answer, each number by its name, the places of a record, and the limits
- * and the bits of a channel. It is C and C++ at once, so that both can be compiled. */
+/* The names of bellrope.h held against the library's seven calls: the layout of an answer and of a session, each number by its name, the places of a record,
+ * and the limits and the bits of a channel. It is C and C++ at once, so that both can be compiled. */
 #include "hold.h"
 
 #include <assert.h>
@@ -7,6 +7,11 @@
 
 static_assert(sizeof(bellrope_answer) == 48 && offsetof(bellrope_answer, context) == 40, "an answer is six numbers of 64 bits");
 static_assert(sizeof bellrope_take_channel(NULL, 0, 0, NULL, 0) == 8 && sizeof bellrope_put_channel(NULL, 0, 0, NULL, 0) == 8, "a number has 64 bits");
+static_assert(sizeof(bellrope_session) == 48 && offsetof(bellrope_session, key) == 8 && offsetof(bellrope_session, position) == 16 &&
+              offsetof(bellrope_session, context) == 24 && offsetof(bellrope_session, capture) == 32 && offsetof(bellrope_session, direction) == 40,
+              "a session is six numbers of 64 bits");
+static_assert(sizeof(bellrope_opened) == 16 && offsetof(bellrope_opened, place) == 8, "what opening answers is two of them");
+static_assert(sizeof bellrope_close(NULL, 0, 0, 0) == 8, "closing answers one");
 
 /* Eight ones, and then a frame of HR speech. */
 static const uint8_t capture[21] = {0xff, 0x00, 0x88, 0x44, 0x80, 0x80, 0x80, 0x80, 0x80, 0x80, 0xf0,
@@ -71,6 +76,115 @@ static void channel_weights(void) {
 	}
 }
 
+static bellrope_session list[BELLROPE_SESSIONS_MOST + 1], before[BELLROPE_SESSIONS_MOST + 1];
+static uint8_t room[40];
+
+/* The list is empty: zeros, and behind it what is not to be looked at. */
+static void clear(size_t places) {
+	memset(list, 0xff, sizeof list);
+	memset(list, 0, places * sizeof *list);
+}
+
+/* A session is taken and has these numbers. They are looked at through pointers, as an answer's are. */
+static int holds(const bellrope_session *s, uint64_t key, uint64_t position, uint64_t context, uint64_t number, uint64_t direction) {
+	const uint64_t *used = &s->used, *got[5] = {&s->key, &s->position, &s->context, &s->capture, &s->direction};
+	const uint64_t due[5] = {key, position, context, number, direction};
+	for (int i = 0; i < 5; i++)
+		if (*got[i] != due[i]) return 0;
+	return *used != 0;
+}
+
+/* Opening answers this number and this place; of a refusal the list is as it was. */
+static int opens(size_t places, uint64_t key, uint64_t number, uint64_t direction, uint64_t answer, uint64_t place) {
+	memcpy(before, list, sizeof list);
+	bellrope_opened opened = bellrope_open(list, places, key, number, direction);
+	const uint64_t *got[2] = {&opened.number, &opened.place};
+	return *got[0] == answer && *got[1] == place && (answer == BELLROPE_TAKEN || memcmp(list, before, sizeof list) == 0);
+}
+
+static bellrope_answer session_page(size_t places, uint64_t place, uint64_t key, uint64_t n, uint64_t most, size_t len) {
+	return bellrope_session_page(list, places, place, key, capture, sizeof capture, n, 0, most, room, len);
+}
+
+/* Paging and closing answer this number and zeros, whatever else is wrong with the page, and the list and the buffer are as they were. */
+static int rejected(size_t places, uint64_t place, uint64_t key, uint64_t number) {
+	static const struct {
+		uint64_t n, most;
+		size_t len;
+	} pages[] = {{N, 9, 40}, {N, 0, 40}, {N + 1, 9, 40}, {0, 9, 40}, {N, 9, 0}};
+	uint8_t still[sizeof room];
+	int so = 1;
+	memcpy(before, list, sizeof list);
+	memcpy(still, room, sizeof room);
+	for (size_t i = 0; i < sizeof pages / sizeof *pages; i++)
+		so = so && is(session_page(places, place, key, pages[i].n, pages[i].most, pages[i].len), number, 0, 0, 0, 0, 0);
+	return so && bellrope_close(list, places, place, key) == number && memcmp(list, before, sizeof list) == 0 && memcmp(room, still, sizeof room) == 0;
+}
+
+/* One session from opening to closing, part by part. Its neighbours stay free, and what is behind the list is not looked at. */
+static void session_parts(void) {
+	const bellrope_session none = {0, 0, 0, 0, 0, 0};
+	const uint64_t key = (uint64_t)1 << 63 | 7, number = (uint64_t)5 << 40;
+	clear(3);
+	HOLD(opens(3, 1, 0, 0, BELLROPE_TAKEN, 0) && holds(&list[0], 1, 0, 0, 0, 0));
+	HOLD(opens(3, key, number, DOWN, BELLROPE_TAKEN, 1) && holds(&list[1], key, 0, BELLROPE_SEARCHING, number, DOWN));
+	HOLD(bellrope_close(list, 3, 0, 1) == BELLROPE_TAKEN);
+	HOLD(is(session_page(3, 1, key, N, 1, 40), BELLROPE_TAKEN, 0, 1, 9, 8, 0) && holds(&list[1], key, 8, BELLROPE_SEARCHING, number, DOWN));
+	HOLD(is(session_page(3, 1, key, N, UINT64_MAX, 40), BELLROPE_TAKEN, 0, 1, 26, N, 1) && holds(&list[1], key, N, BELLROPE_AFTER_HR, number, DOWN));
+	HOLD(memcmp(&list[0], &none, sizeof none) == 0 && memcmp(&list[2], &none, sizeof none) == 0);
+	HOLD(bellrope_close(list, 3, 1, key) == BELLROPE_TAKEN && memcmp(&list[1], &none, sizeof none) == 0);
+	for (size_t at = 3 * sizeof *list; at < sizeof list; at++) HOLD(((const uint8_t *)list)[at] == 0xff);
+}
+
+/* What a page of a session is refused for beside the place: as paging is, the cursor answered and kept. */
+static void session_pages(void) {
+	const bellrope_session beyond = {1, 4, N + 1, 0, 0, DOWN}, odd = {1, 5, 8, BELLROPE_AFTER_590 + 1, 0, DOWN}, sideways = {1, 6, 8, 0, 0, 2};
+	clear(4);
+	HOLD(opens(4, 3, 0, DOWN, BELLROPE_TAKEN, 0) && is(session_page(4, 0, 3, N, 1, 9), BELLROPE_TAKEN, 0, 1, 9, 8, 0));
+	list[1] = beyond;
+	list[2] = odd;
+	list[3] = sideways;
+	memcpy(before, list, sizeof list);
+	HOLD(is(session_page(4, 0, 3, N, 0, 40), BELLROPE_BAD_REQUEST, 0, 0, 0, 8, 0));
+	HOLD(is(session_page(4, 3, 6, N, 9, 40), BELLROPE_BAD_REQUEST, 0, 0, 0, 8, 0));
+	HOLD(is(session_page(4, 0, 3, N + 1, 9, 40), BELLROPE_TOO_LONG, 0, 0, 0, 8, 0));
+	HOLD(is(session_page(4, 0, 3, 7, 9, 40), BELLROPE_BAD_CURSOR, 0, 0, 0, 8, 0));
+	HOLD(is(session_page(4, 1, 4, N, 9, 40), BELLROPE_BAD_CURSOR, 0, 0, 0, N + 1, 0));
+	HOLD(is(session_page(4, 2, 5, N, 9, 40), BELLROPE_BAD_CURSOR, 0, 0, 0, 8, 6));
+	HOLD(is(session_page(4, 0, 3, N, 9, 25), BELLROPE_NO_ROOM, 0, 0, 0, 8, 0));
+	HOLD(memcmp(list, before, sizeof list) == 0);
+}
+
+/* Numbers of the place and of opening, in which order, by lists of every length and one too long. */
+static void session_refusals(void) {
+	const uint64_t any[] = {1, 2, (uint64_t)1 << 32, UINT64_MAX};
+	memset(room, 0x55, sizeof room);
+	for (size_t places = 0; places <= BELLROPE_SESSIONS_MOST; places++) {
+		clear(places);
+		for (uint64_t place = 0; place < places; place++) {
+			HOLD(rejected(places, place, 0, BELLROPE_NO_SESSION));
+			HOLD(opens(places, place, 0, 2, BELLROPE_BAD_REQUEST, 0) && opens(places, place, 0, DOWN, BELLROPE_TAKEN, place));
+			HOLD(opens(places, place, 0, 2, BELLROPE_BAD_REQUEST, 0) && opens(places, place, 0, DOWN, BELLROPE_KEY_PRESENT, 0));
+			HOLD(rejected(places, place, place + 1, BELLROPE_NO_SESSION));
+		}
+		HOLD(opens(places, places, 0, UINT64_MAX, BELLROPE_BAD_REQUEST, 0) && opens(places, places, 0, DOWN, BELLROPE_FULL, 0));
+		HOLD(rejected(places, places, UINT64_MAX, BELLROPE_NO_SESSION) && rejected(places, UINT64_MAX, 0, BELLROPE_NO_SESSION));
+	}
+	/* The list is full. A place freed is taken again, the lowest first; of a free one only `used` counts, and any number but 0 is used. */
+	HOLD(bellrope_close(list, BELLROPE_SESSIONS_MOST, 31, 31) == BELLROPE_TAKEN && bellrope_close(list, BELLROPE_SESSIONS_MOST, 17, 17) == BELLROPE_TAKEN);
+	HOLD(rejected(BELLROPE_SESSIONS_MOST, 17, 17, BELLROPE_NO_SESSION));
+	list[17].key = 99;
+	HOLD(rejected(BELLROPE_SESSIONS_MOST, 17, 99, BELLROPE_NO_SESSION) && opens(BELLROPE_SESSIONS_MOST, 99, 0, DOWN, BELLROPE_TAKEN, 17));
+	for (size_t i = 0; i < sizeof any / sizeof *any; i++) {
+		list[31].used = any[i];
+		list[31].key = 77;
+		HOLD(opens(BELLROPE_SESSIONS_MOST, 77, 0, DOWN, BELLROPE_KEY_PRESENT, 0) && opens(BELLROPE_SESSIONS_MOST, 78, 0, DOWN, BELLROPE_FULL, 0));
+	}
+	/* One place more than there may be. */
+	HOLD(opens(BELLROPE_SESSIONS_MOST + 1, 200, 0, DOWN, BELLROPE_TOO_LONG, 0) && opens(BELLROPE_SESSIONS_MOST + 1, 0, 0, 2, BELLROPE_TOO_LONG, 0));
+	HOLD(rejected(BELLROPE_SESSIONS_MOST + 1, 0, 0, BELLROPE_TOO_LONG) && rejected(BELLROPE_SESSIONS_MOST + 1, UINT64_MAX, 0, BELLROPE_TOO_LONG));
+}
+
 int main(void) {
 	uint8_t records[40], bits[21], still[40];
 	memset(still, 0x55, sizeof still);
@@ -108,5 +222,8 @@ int main(void) {
 	channel_refusals();
 	channel_bits();
 	channel_weights();
+	session_parts();
+	session_pages();
+	session_refusals();
 	return failures != 0;
 }

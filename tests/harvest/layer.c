@@ -1,6 +1,6 @@
 /* The inline part of bellrope.h, held against the specification: its table of kinds is typed here anew, its examples P8, P9 and P12 are harvested, also
- * while they grow and out of a timeslot, and P8 is written back. It is C99 and C++ at once. VERSION is the one that pkg-config gives. The linker hands
- * paging and writing to the forms below (--wrap), which see that they get valid pointers even where the length is 0. */
+ * while they grow, out of a timeslot and by sessions, and P8 is written back. It is C99 and C++ at once. VERSION is the one that pkg-config gives. The
+ * linker hands paging and writing to the forms below (--wrap), which see that they get valid pointers even where the length is 0. */
 #include "hold.h"
 
 #include <string.h>
@@ -10,6 +10,8 @@ extern "C" {
 #endif
 bellrope_answer __real_bellrope_page(const uint8_t *, size_t, uint64_t, uint64_t, uint8_t, uint64_t, uint64_t, uint64_t, uint8_t *, size_t);
 bellrope_answer __real_bellrope_write(const uint8_t *, size_t, uint64_t, uint8_t, uint64_t, uint64_t, uint8_t *, size_t);
+bellrope_answer __real_bellrope_session_page(bellrope_session *, size_t, uint64_t, uint64_t, const uint8_t *, size_t, uint64_t, uint8_t, uint64_t, uint8_t *,
+                                             size_t);
 
 bellrope_answer __wrap_bellrope_page(const uint8_t *capture, size_t capture_len, uint64_t n, uint64_t direction, uint8_t profile, uint64_t position,
                                      uint64_t context, uint64_t most, uint8_t *buffer, size_t buffer_len) {
@@ -21,6 +23,12 @@ bellrope_answer __wrap_bellrope_write(const uint8_t *records, size_t records_len
                                       uint64_t context, uint8_t *buffer, size_t buffer_len) {
 	HOLD(records != NULL && buffer != NULL);
 	return __real_bellrope_write(records, records_len, direction, profile, position, context, buffer, buffer_len);
+}
+
+bellrope_answer __wrap_bellrope_session_page(bellrope_session *sessions, size_t sessions_len, uint64_t place, uint64_t key, const uint8_t *capture,
+                                             size_t capture_len, uint64_t n, uint8_t profile, uint64_t most, uint8_t *buffer, size_t buffer_len) {
+	HOLD(sessions != NULL && capture != NULL && buffer != NULL);
+	return __real_bellrope_session_page(sessions, sessions_len, place, key, capture, capture_len, n, profile, most, buffer, buffer_len);
 }
 #ifdef __cplusplus
 }
@@ -69,9 +77,9 @@ static void kinds(void) {
 
 static void numbers(void) {
 	static const char *const names[] = {"taken", "bad request", "too long", "bad cursor", "no room", "unsound record", "record not due",
-	                                    "no such channel"};
-	for (unsigned number = 0; number <= 7; number++) HOLD(strcmp(bellrope_number_name(number), names[number]) == 0);
-	HOLD(strcmp(bellrope_number_name(8), "unknown number") == 0 && strcmp(bellrope_number_name(UINT64_MAX), "unknown number") == 0);
+	                                    "no such channel", "list of sessions full", "key already present", "no such session"};
+	for (unsigned number = 0; number <= 10; number++) HOLD(strcmp(bellrope_number_name(number), names[number]) == 0);
+	HOLD(strcmp(bellrope_number_name(11), "unknown number") == 0 && strcmp(bellrope_number_name(UINT64_MAX), "unknown number") == 0);
 	HOLD(strcmp(BELLROPE_VERSION, VERSION) == 0);
 }
 
@@ -190,6 +198,94 @@ static void unsettled(void) {
 	HOLD(is(bellrope_settled(bellrope_capture_of(NULL, 0, 0, 1), &end, 1, NULL, 0), BELLROPE_TAKEN, 0, 0, 0, 0, 1) && stands(end, 0, 1));
 	HOLD(is(bellrope_settled(bellrope_capture_of(p8, 21, 0, 1), &end, 1, page, 40), BELLROPE_TAKEN, 0, 0, 0, 0, 1) && stands(end, 0, 1));
 	HOLD(memcmp(page, still, sizeof still) == 0);
+}
+
+/* A session with this cursor, between two of other keys, asked for what is settled of a capture: answer, cursor and buffer are those of bellrope_settled,
+ * and nothing else of the list changes. */
+static int settles_alike(bellrope_capture capture, bellrope_cursor cursor, uint64_t most, size_t length) {
+	const uint64_t key = 7;
+	bellrope_session list[3] = {{1, 6, 1, 2, 3, 1}, {1, key, 0, 0, 4, 0}, {1, 8, 5, 6, 7, 0}}, due[3];
+	uint8_t ours[41], theirs[41];
+	list[1].position = cursor.position;
+	list[1].context = cursor.context;
+	list[1].direction = capture.direction;
+	memcpy(due, list, sizeof due);
+	memset(ours, 0x55, sizeof ours);
+	memset(theirs, 0x55, sizeof theirs);
+	bellrope_answer a = bellrope_settled(capture, &cursor, most, theirs, length);
+	bellrope_answer b = bellrope_session_settled(list, 3, 1, key, capture.bytes, capture.length, capture.n, capture.profile, most, ours, length);
+	due[1].position = cursor.position;
+	due[1].context = cursor.context;
+	return is(b, a.number, a.index, a.items, a.bytes, a.position, a.context) && memcmp(list, due, sizeof due) == 0 && memcmp(ours, theirs, sizeof ours) == 0;
+}
+
+/* P8 as it grows, up to a bit too many, by each cursor and direction. Refusals are among these: 1, 2, 3 and 4. */
+static void sessions_settle(void) {
+	static const bellrope_cursor cursors[] = {{0, 0}, {8, 0}, {168, 1}, {169, 0}, {168, 6}};
+	static const size_t lengths[] = {0, 8, 9, 25, 26, 34, 35, 40};
+	for (uint64_t n = 0; n <= 169; n += n < 8 || n >= 164 ? 1 : 12)
+		for (size_t c = 0; c < sizeof cursors / sizeof *cursors; c++)
+			for (uint64_t direction = 0; direction <= 2; direction++)
+				for (size_t l = 0; l < sizeof lengths / sizeof *lengths; l++) {
+					bellrope_capture capture = bellrope_capture_of(p8, sizeof p8, n, direction);
+					unsigned wrong = !settles_alike(capture, cursors[c], 0, lengths[l]);
+					for (size_t i = 0; i < sizeof mosts / sizeof *mosts; i++) wrong += !settles_alike(capture, cursors[c], mosts[i], lengths[l]);
+					HOLD(wrong == 0);
+				}
+	/* By the profile, class 4 is checked, and this one is no frame. */
+	const uint8_t silence[20] = {0x00, 0x80, 0xc2, 0x40, 0x80, 0x80, 0x80, 0x80, 0x80, 0xa0, 0x80, 0x80, 0x80, 0x80, 0x80, 0x80, 0x80, 0x80, 0x80, 0x83};
+	uint8_t twice[40];
+	memcpy(twice, silence, 20);
+	memcpy(twice + 20, silence, 20);
+	bellrope_capture capture = bellrope_capture_of(twice, sizeof twice, 320, BELLROPE_DOWNLINK);
+	HOLD(settles_alike(capture, bellrope_begin(), 9, 40));
+	capture.profile = 16;
+	HOLD(settles_alike(capture, bellrope_begin(), 9, 40));
+}
+
+/* A session of P8 as it grows, from opening to closing: what is settled, then the rest, are the reading. */
+static void session_kept(void) {
+	static const uint64_t key = UINT64_MAX;
+	bellrope_session list[2] = {{0, 0, 0, 0, 0, 0}, {0, 0, 0, 0, 0, 0}};
+	uint8_t page[40], whole[40];
+	bellrope_cursor cursor = bellrope_begin();
+	HOLD(bellrope_open(list, 2, 5, 1, BELLROPE_UPLINK).place == 0 && bellrope_open(list, 2, key, 2, BELLROPE_DOWNLINK).place == 1);
+	for (uint64_t n = 0; n <= 165; n++) {
+		HOLD(is(bellrope_session_settled(list, 2, 1, key, p8, sizeof p8, n, 0, 9, page, 40), 0, 0, 0, 0, 0, 0));
+		HOLD(list[1].position == 0 && list[1].context == 0);
+	}
+	HOLD(is(bellrope_session_settled(list, 2, 1, key, p8, sizeof p8, 166, 0, 9, page, 40), 0, 0, 1, 9, 8, 0) && list[1].position == 8);
+	for (uint64_t n = 166; n <= 168; n++) {
+		HOLD(is(bellrope_session_settled(list, 2, 1, key, p8, sizeof p8, n, 0, 9, page + 9, 31), 0, 0, 0, 0, 8, 0));
+		HOLD(list[1].position == 8 && list[1].context == 0);
+	}
+	HOLD(is(bellrope_session_page(list, 2, 1, key, p8, sizeof p8, 168, 0, 9, page + 9, 31), 0, 0, 1, 26, 168, 1));
+	HOLD(list[1].position == 168 && list[1].context == BELLROPE_AFTER_HR);
+	HOLD(bellrope_next(bellrope_capture_of(p8, sizeof p8, 168, 1), &cursor, 9, whole, 40).bytes == 35 && memcmp(page, whole, 35) == 0);
+	HOLD(bellrope_close(list, 2, 1, key) == BELLROPE_TAKEN && list[1].used == 0 && list[0].used != 0);
+}
+
+/* Refusals for the list and the place, whatever else is asked, leave the list and the buffer. NULL where a length is 0. */
+static void sessions_unsettled(void) {
+	static bellrope_session list[33], still[33];
+	uint8_t page[40], as_was[40];
+	memset(list, 0, sizeof list);
+	memset(page, 0x55, sizeof page);
+	memset(as_was, 0x55, sizeof as_was);
+	HOLD(bellrope_open(list, 32, 7, 0, BELLROPE_DOWNLINK).place == 0 && bellrope_open(list, 32, 8, 0, BELLROPE_DOWNLINK).place == 1);
+	memcpy(still, list, sizeof list);
+	for (uint64_t most = 0; most <= 9; most += 9) {
+		HOLD(is(bellrope_session_settled(list, 33, 0, 7, p8, 21, 168, 0, most, page, 40), BELLROPE_TOO_LONG, 0, 0, 0, 0, 0));
+		HOLD(is(bellrope_session_settled(list, 33, 40, 7, p8, 21, 169, 0, most, page, 40), BELLROPE_TOO_LONG, 0, 0, 0, 0, 0));
+		HOLD(is(bellrope_session_settled(list, 32, 32, 7, p8, 21, 168, 0, most, page, 40), BELLROPE_NO_SESSION, 0, 0, 0, 0, 0));
+		HOLD(is(bellrope_session_settled(list, 32, UINT64_MAX, 7, p8, 21, 168, 0, most, page, 40), BELLROPE_NO_SESSION, 0, 0, 0, 0, 0));
+		HOLD(is(bellrope_session_settled(list, 32, 1, 7, p8, 21, 169, 0, most, page, 40), BELLROPE_NO_SESSION, 0, 0, 0, 0, 0));
+		HOLD(is(bellrope_session_settled(list, 32, 2, 0, p8, 21, 168, 0, most, page, 0), BELLROPE_NO_SESSION, 0, 0, 0, 0, 0));
+		HOLD(is(bellrope_session_settled(NULL, 0, 0, 7, p8, 21, 168, 0, most, page, 40), BELLROPE_NO_SESSION, 0, 0, 0, 0, 0));
+	}
+	HOLD(is(bellrope_session_settled(list, 32, 0, 7, p8, 21, 168, 0, 9, NULL, 0), BELLROPE_NO_ROOM, 0, 0, 0, 0, 0));
+	HOLD(is(bellrope_session_settled(list, 32, 0, 7, NULL, 0, 0, 0, 9, NULL, 0), BELLROPE_TAKEN, 0, 0, 0, 0, 0));
+	HOLD(memcmp(list, still, sizeof list) == 0 && memcmp(page, as_was, sizeof page) == 0);
 }
 
 /* The records of P8 and P12, field by field. */
@@ -328,6 +424,9 @@ int main(void) {
 	kept();
 	settles();
 	unsettled();
+	sessions_settle();
+	session_kept();
+	sessions_unsettled();
 	fields();
 	d_bits();
 	walks();
