@@ -113,7 +113,7 @@ module _ {M : Type 1} (𝓤 : URA M) (H : Heap 𝓤) (A : Atoms 𝓤) (W : Given
   abbrev n : ℕ
   n = length ys
 
-  -- the list, under the name δ at the list l, and its machine value
+  -- the list of sessions, l, under the name δ, and its machine value
   abbrev x : GName → List Session → RefT (List Session)
   x δ l = record { ptr = (b, o); name = δ; now = l }
 
@@ -183,7 +183,7 @@ module _ {M : Type 1} (𝓤 : URA M) (H : Heap 𝓤) (A : Atoms 𝓤) (W : Given
         -- with k items before them, local _i is at k + 2 · (12 − i)
         assigns ! (addr ! (from ! (fld ! refl (hop ! (look-in ! 22 (sub ! 0 refl (whole !))) (stop !))))) (from ! (stop !)) (init ! 10 refl (tt, tt)) $
         assigns ! (agg ! (and-then ! (load ! (from ! (stop !)) (look ! 10 refl)) (and-then ! (load ! (from ! (fld ! refl (stop !))) (look-in ! 22 (sub ! 1 refl (whole !)))) (no-more !)))) (from ! (stop !)) (init ! 8 refl (tt, (tt, (record { fits = gn .0 }, tt)))) $
-        -- the numbers' facts are dropped, and made anew where they are brought for: [the token; what t owns; _12; …]
+        -- the numbers' facts are dropped, and made anew where they are asked for: [the token; what t owns; _12; …]
         move ! (27 ∷ []) $ fsplit ! $ move ! (1 ∷ []) $ drop ! $ move ! (27 ∷ []) $ split ! $ move ! (1 ∷ []) $ drop ! $
         -- `find`, on the list lent as a `&` for a lifetime ν of the call
         lft-new ! tt (λ ν. move ! (2 ∷ 1 ∷ []) $

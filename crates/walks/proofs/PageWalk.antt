@@ -138,7 +138,7 @@ module _ {M : Type 1} (𝓤 : URA M) (H : Heap 𝓤) (A : Atoms 𝓤) (W : Given
   abbrev bs : List ℕ
   bs = buf .now
 
-  -- the list, under the name δ at the list l, and the slices' machine values
+  -- the list of sessions, l, under the name δ, and the slices' machine values
   abbrev x : GName → List Session → RefT (List Session)
   x δ l = record { ptr = (b, o); name = δ; now = l }
 
