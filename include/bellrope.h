@@ -216,8 +216,8 @@ bellrope_opened bellrope_open(bellrope_session *sessions, size_t sessions_len, u
  * its cursor, and the session keeps the cursor that is answered. Bring the bytes and n of its
  * capture, whose number stands at the place, if that is below sessions_len and taken; else the call
  * is refused whatever is brought. Number 2 for the list and 10 come first, and answer a cursor of
- * zeros; then those of paging. If the capture may still grow, use bellrope_session_settled: a cursor
- * at n would not stay good. */
+ * zeros; then those of paging. If the capture may still grow, use bellrope_session_settled: a
+ * cursor at n would not stay good. */
 bellrope_answer bellrope_session_page(bellrope_session *sessions, size_t sessions_len,
                                       uint64_t place, uint64_t key, const uint8_t *capture,
                                       size_t capture_len, uint64_t n, uint8_t profile,
