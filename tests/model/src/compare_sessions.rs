@@ -17,12 +17,12 @@ use model::sessions::{self, Closed, Named, Opened, Opening, Paged, Paging, Sessi
 const SCRIPT_EACH: usize = 5;
 
 impl Comparison {
-    /// Sometimes a script; of a long capture rather one session.
+    /// Sometimes a script; of each long capture a session.
     pub fn session_case(&mut self, rng: &mut Rng, lent: &Lent) -> Result<(), Stop> {
         if lent.too_long() {
             return Ok(());
         }
-        if lent.long() && rng.bit() {
+        if lent.long() {
             let script = Script::long(rng, lent);
             self.script(rng, script, 12)?;
             self.paging_sessions.add(LONG);

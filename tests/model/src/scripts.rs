@@ -46,6 +46,7 @@ impl Harvester {
     }
 }
 
+/// A script under way.
 pub struct Script {
     /// The list as it is now.
     pub sessions: Vec<Session>,
@@ -200,7 +201,7 @@ impl Script {
         if self.harvesters.iter().any(waits) {
             key = rng.draw();
         }
-        let direction = match rng.below(5) {
+        let direction = match rng.below(3) {
             0 => rng.of(&[2, 3, 1 << 32, (1 << 32) + 1, 1 << 63, u64::MAX]),
             _ => rng.below(2) as u64,
         };
@@ -216,8 +217,7 @@ impl Script {
     pub fn stray(&self, rng: &mut Rng) -> Named {
         let places = self.sessions.len();
         let at = rng.below(places.max(1)) as u64;
-        let there = self.sessions.get(at as usize).copied();
-        let there = there.unwrap_or_default().key;
+        let there = self.sessions.get(at as usize).map_or(0, |s| s.key);
         let place = match rng.below(12) {
             0 => places as u64,
             1 => at + rng.of(&[1 << 8, 1 << 16, 1 << 32, 1 << 63]),
@@ -321,8 +321,8 @@ fn number(rng: &mut Rng) -> u64 {
     rng.of(&[0, 1, 2, 5, 6, some, 1 << 32, u64::MAX, any])
 }
 
-/// A list that is lent: zeros, free places with anything in them, or taken ones among them. Its
-/// length is mostly small, and often the greatest.
+/// A list that is lent: zeros, free places with anything in them, or taken ones among them, often
+/// with the same few keys. Its length is mostly small, and often the greatest.
 fn list(rng: &mut Rng) -> Vec<Session> {
     let places = match rng.below(10) {
         0 => rng.below(2),
@@ -331,15 +331,21 @@ fn list(rng: &mut Rng) -> Vec<Session> {
         7 => PLACES_MOST,
         _ => rng.below(PLACES_MOST),
     };
-    match rng.below(4) {
-        0 => vec![Session::default(); places],
-        1 => (0..places).map(|_| place(rng, &[0])).collect(),
-        2 => (0..places).map(|_| place(rng, &[0, 1, u64::MAX])).collect(),
-        _ => {
-            let used = [0, 1, 1, 2, 1 << 8, 1 << 32, 1 << 63, u64::MAX];
-            (0..places).map(|_| place(rng, &used)).collect()
+    let many = [0, 1, 1, 2, 1 << 8, 1 << 32, 1 << 63, u64::MAX];
+    let used = match rng.below(4) {
+        0 => return vec![Session::default(); places],
+        1 => &[0][..],
+        2 => &[0, 1, u64::MAX],
+        _ => &many,
+    };
+    let few_keys = rng.bit();
+    let mut sessions: Vec<Session> = (0..places).map(|_| place(rng, used)).collect();
+    if few_keys {
+        for session in &mut sessions {
+            session.key = rng.below(3) as u64;
         }
     }
+    sessions
 }
 
 /// A place with any numbers in it, often a sound cursor.
@@ -362,7 +368,7 @@ fn place(rng: &mut Rng, used: &[u64]) -> Session {
 
 /// The list, and now and then one with more places behind its own than there may be.
 fn longer(rng: &mut Rng, mut sessions: Vec<Session>) -> Vec<Session> {
-    if rng.once_in(10) {
+    if rng.once_in(6) {
         let most = PLACES_MOST;
         let places = rng.of(&[most + 1, most + 1, most + 2, 2 * most, 1_000]);
         let used = rng.of(&[[0, 1], [1, 1]]);
