@@ -35,10 +35,11 @@ impl Comparison {
         Ok(())
     }
 
-    /// A list of one length, up to two more than there may be: each place is opened, paged, closed
-    /// and opened again, with another one free above.
+    /// A list of one length, from two more than there may be down to 0, so that a short run has the
+    /// longest: each place is opened, paged, closed and opened again, with another one free above.
     pub fn session_sweep(&mut self, rng: &mut Rng, turn: u64) -> Result<(), Stop> {
-        let places = turn as usize % (PLACES_MOST + 3);
+        let longest = PLACES_MOST + 2;
+        let places = longest - turn as usize % (longest + 1);
         let mut script = Script::over(vec![short(rng)], vec![Session::default(); places], 300);
         let first = key(rng);
         let key = |i: usize| first.wrapping_add(i as u64);
