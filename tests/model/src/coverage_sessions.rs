@@ -113,44 +113,38 @@ pub fn count_closing(counts: &mut Counts, request: &Named, closed: &Closed) {
 
 /// Counts what paging and closing name, and why that is refused; `more` is where more refuses.
 fn count_named(counts: &mut Counts, named: &Named, causes: &[Cause], more: bool) {
-    let (list, key) = (&named.sessions, named.key);
     match causes {
-        [] => count_session(counts, named),
         [cause] if !more => counts.add(&format!("{cause:?}")),
         [first, later] => counts.add(&format!("{first:?} before {}", later.number())),
         _ => {}
     }
-    let [.., cause] = causes else { return };
-    let low = list.get(named.place as u32 as usize);
-    let other = list.iter().any(|s| s.holds(key));
+    let places = named.sessions.len();
+    match causes.first() {
+        None => count_session(counts, named),
+        Some(Cause::ListTooLong) => counts.add(&format!("list of {places} refused")),
+        Some(cause) => count_absent(counts, named, *cause),
+    }
+}
+
+/// Counts a session that is not there.
+fn count_absent(counts: &mut Counts, named: &Named, cause: Cause) {
+    let (list, place, key) = (&named.sessions, named.place, named.key);
+    let outside = cause == Cause::Outside;
+    let low = list.get(place as u32 as usize);
+    let low = outside && low.is_some_and(|s| s.holds(key));
     let there = named.session().unwrap_or_default();
-    let outside = *cause == Cause::Outside;
-    let (free, other_key) = (*cause == Cause::Free, *cause == Cause::OtherKey);
+    let left = cause == Cause::Free && there.key == key && key != 0;
+    let low_of_key = cause == Cause::OtherKey && there.key as u32 == key as u32;
+    let other = !outside && list.iter().any(|s| s.holds(key));
     count_each(
         counts,
         &[
-            (
-                "first place outside",
-                outside && named.place == list.len() as u64,
-            ),
-            ("place of all ones", outside && named.place == u64::MAX),
-            (
-                "low bits of its place",
-                outside && low.is_some_and(|s| s.holds(key)),
-            ),
-            (
-                "low bits of its key",
-                other_key && there.key as u32 == key as u32,
-            ),
-            (
-                "its key left in a free place",
-                free && there.key == key && key != 0,
-            ),
-            ("its key at another place", (free || other_key) && other),
-            (
-                "list of 33 refused",
-                causes[0] == Cause::ListTooLong && list.len() == 33,
-            ),
+            ("first place outside", place == list.len() as u64),
+            ("place of all ones", place == u64::MAX),
+            ("low bits of its place", low),
+            ("low bits of its key", low_of_key),
+            ("its key left in a free place", left),
+            ("its key at another place", other),
         ],
     );
 }

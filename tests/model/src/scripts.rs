@@ -220,7 +220,7 @@ impl Script {
         let there = self.sessions.get(at as usize).map_or(0, |s| s.key);
         let place = match rng.below(12) {
             0 => places as u64,
-            1 => at + rng.of(&[1 << 8, 1 << 16, 1 << 32, 1 << 63]),
+            1 => at + rng.of(&[1 << 8, 1 << 32, 1 << 32, 1 << 63]),
             2 => rng.of(&[PLACES_MOST as u64, u64::MAX]),
             3 => rng.below(40) as u64,
             _ => at,
