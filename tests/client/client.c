@@ -1,12 +1,13 @@
 /* The client of the comparison: reads requests on standard input, makes each call with the lent bytes flush against a protected page, and writes the
- * answer, what changed that must stand, and the whole buffer. It judges nothing else.
+ * answer, what changed that must stand, and the whole of what may change. It judges nothing else.
  *
- * A request is eleven 64-bit numbers (call, placement, guard, input length, n, direction, profile, position, context, most, buffer length), then the
- * input and the buffer as it is before the call. Call 1 is paging, and its input the capture. Call 2 is writing, and its input the records; it takes
- * neither n nor most, which are 0. Call 3 takes a channel out, and its input is the timeslot; call 4 puts one back, its input is the channel's bytes and
- * its buffer the timeslot. The number of their channel stands in the place of n, and the five numbers up to most are 0. Other numbers are free for
- * later calls. Placement: bit 0 set puts the input at the end of its pages, bit 1 the buffer; clear, at their start. A reply is the six numbers of the
- * answer (of calls 3 and 4 the first, and zeros), a number of flags, and the buffer. */
+ * A request is fifteen 64-bit numbers (call, placement, guard, input length, n, direction, profile, position, context, most, buffer length, sessions,
+ * place, key, capture), then the input, the buffer as it is before the call, and the list of sessions likewise: six numbers each, as in bellrope.h. What
+ * a call does not take is 0. Call 1 is paging, and its input the capture. Call 2 is writing, and its input the records. Call 3 takes a channel out, and
+ * its input is the timeslot; call 4 puts one back, its input is the channel's bytes and its buffer the timeslot; the number of their channel stands in
+ * the place of n. Call 5 opens a session, call 6 is a page of one, its input the capture, and call 7 closes one. Other numbers are free for later calls.
+ * Placement: bit 0 set puts the input at the end of its pages, bit 1 the buffer, bit 2 the list; clear, at their start. A reply is the six numbers of
+ * the answer (of calls 3, 4 and 7 the first, of call 5 the number and the place, then zeros), a number of flags, the buffer and the list. */
 #define _GNU_SOURCE
 #include "bellrope.h"
 
@@ -17,8 +18,11 @@
 #include <sys/mman.h>
 #include <unistd.h>
 
-enum { CALL_PAGE = 1, CALL_WRITE = 2, CALL_TAKE = 3, CALL_PUT = 4 };
-enum { INPUT_CHANGED = 1, INPUT_GUARD_CHANGED = 2, BUFFER_GUARD_CHANGED = 4 };
+enum { CALL_PAGE = 1, CALL_WRITE = 2, CALL_TAKE = 3, CALL_PUT = 4, CALL_OPEN = 5, CALL_SESSION_PAGE = 6, CALL_CLOSE = 7, CALLS = 8 };
+enum { INPUT_CHANGED = 1, INPUT_GUARD_CHANGED = 2, BUFFER_GUARD_CHANGED = 4, LIST_GUARD_CHANGED = 8 };
+
+/* The numbers of a request in their order. */
+enum { CALL, PLACEMENT, GUARD, INPUT, N, DIRECTION, PROFILE, POSITION, CONTEXT, MOST, BUFFER, SESSIONS, PLACE, KEY, CAPTURE, NUMBERS };
 
 #define LARGEST ((size_t)4 << 20)
 
@@ -82,27 +86,40 @@ static void give(const void *from, size_t len) {
 	if (fwrite(from, 1, len, stdout) != len) fail("client: write");
 }
 
+#define TAKES(number) ((uint32_t)1 << (number))
+
+/* The numbers that a call takes, beside those of every request. */
+static const uint32_t takes[CALLS] = {
+	[CALL_PAGE] = TAKES(INPUT) | TAKES(N) | TAKES(DIRECTION) | TAKES(PROFILE) | TAKES(POSITION) | TAKES(CONTEXT) | TAKES(MOST) | TAKES(BUFFER),
+	[CALL_WRITE] = TAKES(INPUT) | TAKES(DIRECTION) | TAKES(PROFILE) | TAKES(POSITION) | TAKES(CONTEXT) | TAKES(BUFFER),
+	[CALL_TAKE] = TAKES(INPUT) | TAKES(N) | TAKES(BUFFER),
+	[CALL_PUT] = TAKES(INPUT) | TAKES(N) | TAKES(BUFFER),
+	[CALL_OPEN] = TAKES(SESSIONS) | TAKES(KEY) | TAKES(CAPTURE) | TAKES(DIRECTION),
+	[CALL_SESSION_PAGE] = TAKES(SESSIONS) | TAKES(PLACE) | TAKES(KEY) | TAKES(INPUT) | TAKES(N) | TAKES(PROFILE) | TAKES(MOST) | TAKES(BUFFER),
+	[CALL_CLOSE] = TAKES(SESSIONS) | TAKES(PLACE) | TAKES(KEY),
+};
+
 /* The request is known: the call, what it takes, and lengths that there is room for. */
-static int known(const uint64_t r[11]) {
-	if (r[3] > LARGEST || r[6] > UINT8_MAX || r[10] > LARGEST) return 0;
-	switch (r[0]) {
-	case CALL_PAGE: return 1;
-	case CALL_WRITE: return r[4] == 0 && r[9] == 0;
-	case CALL_TAKE:
-	case CALL_PUT: return r[5] == 0 && r[6] == 0 && r[7] == 0 && r[8] == 0 && r[9] == 0;
-	default: return 0;
-	}
+static int known(const uint64_t r[NUMBERS]) {
+	if (r[CALL] < CALL_PAGE || r[CALL] >= CALLS) return 0;
+	for (int i = INPUT; i < NUMBERS; i++)
+		if (r[i] != 0 && !(takes[r[CALL]] & TAKES(i))) return 0;
+	return r[INPUT] <= LARGEST && r[PROFILE] <= UINT8_MAX && r[BUFFER] <= LARGEST && r[SESSIONS] <= LARGEST / sizeof(bellrope_session);
 }
 
 /* The calls as they are made here: only the low byte of a profile's register is the profile, and the rest holds ones, as a caller may leave it. */
 typedef bellrope_answer paging(const uint8_t *, size_t, uint64_t, uint64_t, uint64_t, uint64_t, uint64_t, uint64_t, uint8_t *, size_t);
 typedef bellrope_answer writing(const uint8_t *, size_t, uint64_t, uint64_t, uint64_t, uint64_t, uint8_t *, size_t);
+typedef bellrope_answer paging_of_session(bellrope_session *, size_t, uint64_t, uint64_t, const uint8_t *, size_t, uint64_t, uint64_t, uint64_t, uint8_t *,
+                                          size_t);
 
-static bellrope_answer call(const uint64_t r[11], const arena *in, const arena *b) {
-	uint64_t n = r[4], channel = r[4], direction = r[5], profile = r[6] | ~(uint64_t)UINT8_MAX, position = r[7], context = r[8], most = r[9];
+static uint64_t profile_of(const uint64_t r[NUMBERS]) { return r[PROFILE] | ~(uint64_t)UINT8_MAX; }
+
+static bellrope_answer call_on_bytes(const uint64_t r[NUMBERS], const arena *in, const arena *b) {
+	uint64_t n = r[N], channel = r[N], direction = r[DIRECTION], profile = profile_of(r), position = r[POSITION], context = r[CONTEXT], most = r[MOST];
 	paging *page = (paging *)(void (*)(void))bellrope_page;
 	writing *write = (writing *)(void (*)(void))bellrope_write;
-	switch (r[0]) {
+	switch (r[CALL]) {
 	case CALL_PAGE: return page(in->lent, in->len, n, direction, profile, position, context, most, b->lent, b->len);
 	case CALL_WRITE: return write(in->lent, in->len, direction, profile, position, context, b->lent, b->len);
 	case CALL_TAKE: return (bellrope_answer){.number = bellrope_take_channel(in->lent, in->len, channel, b->lent, b->len)};
@@ -110,37 +127,51 @@ static bellrope_answer call(const uint64_t r[11], const arena *in, const arena *
 	}
 }
 
+static bellrope_answer call_on_sessions(const uint64_t r[NUMBERS], const arena *in, const arena *b, const arena *list) {
+	bellrope_session *sessions = (bellrope_session *)(void *)list->lent;
+	uint64_t len = r[SESSIONS], place = r[PLACE], key = r[KEY];
+	paging_of_session *page = (paging_of_session *)(void (*)(void))bellrope_session_page;
+	if (r[CALL] == CALL_SESSION_PAGE) return page(sessions, len, place, key, in->lent, in->len, r[N], profile_of(r), r[MOST], b->lent, b->len);
+	if (r[CALL] == CALL_CLOSE) return (bellrope_answer){.number = bellrope_close(sessions, len, place, key)};
+	bellrope_opened opened = bellrope_open(sessions, len, key, r[CAPTURE], r[DIRECTION]);
+	return (bellrope_answer){.number = opened.number, .index = opened.place};
+}
+
 int main(void) {
-	static uint8_t input[LARGEST], buffer[LARGEST];
-	arena inputs[2], buffers[2];
-	uint64_t r[11];
+	static uint8_t input[LARGEST], buffer[LARGEST], sessions[LARGEST];
+	arena inputs[2], buffers[2], lists[2];
+	uint64_t r[NUMBERS];
 	page_size = (size_t)sysconf(_SC_PAGESIZE);
 	for (int i = 0; i < 2; i++) {
 		arena_make(&inputs[i], i);
 		arena_make(&buffers[i], i);
+		arena_make(&lists[i], i);
 	}
 	while (take(r, sizeof r)) {
 		if (!known(r)) {
 			fprintf(stderr, "client: a request that it does not know\n");
 			return 2;
 		}
-		uint64_t placement = r[1];
-		uint8_t guard = (uint8_t)r[2];
-		size_t input_len = r[3], buffer_len = r[10];
-		arena *in = &inputs[placement & 1], *b = &buffers[placement >> 1 & 1];
-		if ((input_len && !take(input, input_len)) || (buffer_len && !take(buffer, buffer_len))) return 2;
+		uint64_t placement = r[PLACEMENT];
+		uint8_t guard = (uint8_t)r[GUARD];
+		size_t input_len = r[INPUT], buffer_len = r[BUFFER], list_len = r[SESSIONS] * sizeof(bellrope_session);
+		arena *in = &inputs[placement & 1], *b = &buffers[placement >> 1 & 1], *list = &lists[placement >> 2 & 1];
+		if ((input_len && !take(input, input_len)) || (buffer_len && !take(buffer, buffer_len)) || (list_len && !take(sessions, list_len))) return 2;
 		arena_lend(in, input, input_len, guard);
 		arena_lend(b, buffer, buffer_len, guard);
+		arena_lend(list, sessions, list_len, guard);
 
-		bellrope_answer answer = call(r, in, b);
+		bellrope_answer answer = r[CALL] < CALL_OPEN ? call_on_bytes(r, in, b) : call_on_sessions(r, in, b, list);
 
 		uint64_t flags = 0;
 		if (memcmp(in->lent, input, input_len)) flags |= INPUT_CHANGED;
 		if (!guards_stand(in, guard)) flags |= INPUT_GUARD_CHANGED;
 		if (!guards_stand(b, guard)) flags |= BUFFER_GUARD_CHANGED;
+		if (!guards_stand(list, guard)) flags |= LIST_GUARD_CHANGED;
 		give(&answer, sizeof answer);
 		give(&flags, sizeof flags);
 		give(b->lent, buffer_len);
+		give(list->lent, list_len);
 		if (fflush(stdout)) fail("client: write");
 	}
 	return 0;

@@ -16,6 +16,11 @@ impl Answer {
         Answer::refusal(number, 0, 0, 0)
     }
 
+    /// The answer of opening a session: its place stands where the index does.
+    pub fn opened(number: u64, place: u64) -> Answer {
+        Answer::refusal(number, place, 0, 0)
+    }
+
     /// A refusal: 0 items, 0 bytes, the cursor as given.
     pub fn refusal(number: u64, index: u64, position: u64, context: u64) -> Answer {
         Answer {

@@ -6,6 +6,8 @@ use model::answer::Answer;
 use model::families;
 use model::requests::Lent;
 use model::rng::Rng;
+use model::sessions::{bytes as bytes_of, Session};
+use std::mem::size_of;
 
 /// Why a comparison stops.
 pub enum Stop {
@@ -21,15 +23,19 @@ pub struct Comparison {
     pub writing: Counts,
     pub taking: Counts,
     pub putting: Counts,
+    pub opening: Counts,
+    pub paging_sessions: Counts,
+    pub closing: Counts,
     pub calls: u64,
     /// Whether the model is held against itself too.
     pub own_checks: bool,
 }
 
-/// In how many cases there is one sweep of records, and one of timeslots. The default run makes each
-/// sweep once at least.
-const SWEEP_EACH: u64 = 11;
+/// In how many cases there is one sweep of records, one of timeslots and one of sessions. The default
+/// run makes each sweep once at least.
+const SWEEP_EACH: u64 = 8;
 const TIMESLOT_SWEEP_EACH: u64 = 2 * SWEEP_EACH;
+const SESSION_SWEEP_EACH: u64 = 4 * SWEEP_EACH;
 
 impl Comparison {
     pub fn new(client: Client, own_checks: bool) -> Comparison {
@@ -39,13 +45,16 @@ impl Comparison {
             writing: Counts::default(),
             taking: Counts::default(),
             putting: Counts::default(),
+            opening: Counts::default(),
+            paging_sessions: Counts::default(),
+            closing: Counts::default(),
             calls: 0,
             own_checks,
         }
     }
 
-    /// One case: a capture, requests of paging for it, requests of writing, and requests for
-    /// channels of timeslots.
+    /// One case: a capture, requests of paging for it, requests of writing, requests for channels of
+    /// timeslots, and sometimes a script of calls on sessions.
     pub fn case(&mut self, seed: u64, case: u64) -> Result<(), Stop> {
         let mut rng = Rng::new(seed, case);
         let made = families::make(&mut rng);
@@ -61,6 +70,10 @@ impl Comparison {
         if let (turn, 0) = (case / TIMESLOT_SWEEP_EACH, case % TIMESLOT_SWEEP_EACH) {
             self.timeslot_sweep(&mut rng, turn)?;
         }
+        self.session_case(&mut rng, &lent)?;
+        if let (turn, 0) = (case / SESSION_SWEEP_EACH, case % SESSION_SWEEP_EACH) {
+            self.session_sweep(&mut rng, turn)?;
+        }
         Ok(())
     }
 }
@@ -69,6 +82,7 @@ impl Comparison {
 pub struct Pair<'a> {
     pub answer: &'a Answer,
     pub buffer: &'a [u8],
+    pub sessions: &'a [Session],
     pub got: Result<&'a Reply, &'a String>,
 }
 
@@ -76,7 +90,10 @@ impl Pair<'_> {
     /// Every number and every byte is as it should be.
     pub fn same(&self) -> bool {
         self.got.is_ok_and(|reply| {
-            reply.answer == *self.answer && reply.buffer == self.buffer && reply.flags == 0
+            reply.answer == *self.answer
+                && reply.buffer == self.buffer
+                && reply.sessions == bytes_of(self.sessions)
+                && reply.flags == 0
         })
     }
 
@@ -94,9 +111,21 @@ impl Pair<'_> {
                 if let Some(at) = bytes.position(|(one, other)| one != other) {
                     lines.push(format!("the buffers differ first at byte {at}"));
                 }
+                lines.extend(self.places(&reply.sessions));
             }
         }
         Stop::Difference(lines.join("\n"))
+    }
+
+    /// The places of the list of sessions that differ.
+    fn places(&self, list: &[u8]) -> Vec<String> {
+        let model = self.sessions.iter().enumerate();
+        let both = model.zip(list.chunks(size_of::<Session>()));
+        let differ = both.filter(|((_, session), bytes)| bytes_of(&[**session]) != *bytes);
+        let line = |((place, session), bytes)| {
+            format!("place {place}: model {session:?}, library {}", hex(bytes))
+        };
+        differ.map(line).collect()
     }
 }
 

@@ -149,6 +149,7 @@ fn same(
     let pair = Pair {
         answer: &expected.answer,
         buffer: &expected.after,
+        sessions: &[],
         got: reply.as_ref(),
     };
     if !pair.same() {

@@ -101,6 +101,7 @@ impl Comparison {
         let pair = Pair {
             answer: &expected.answer,
             buffer: &expected.buffer,
+            sessions: &[],
             got: reply.as_ref(),
         };
         if !pair.same() {

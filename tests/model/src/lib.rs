@@ -1,5 +1,5 @@
-//! The model: what the specification says of frames, readings, records, pages, writing and
-//! timeslots, by brute force.
+//! The model: what the specification says of frames, readings, records, pages, writing, timeslots
+//! and sessions, by brute force.
 //! It is written from the specification alone and shares nothing with the library.
 
 pub mod answer;
@@ -22,6 +22,8 @@ pub mod record;
 pub mod requests;
 pub mod rng;
 pub mod rules;
+pub mod scripts;
+pub mod sessions;
 pub mod silence;
 pub mod spoil;
 pub mod stretches;

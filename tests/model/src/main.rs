@@ -11,10 +11,12 @@ mod client;
 mod compare;
 mod compare_growth;
 mod compare_page;
+mod compare_sessions;
 mod compare_timeslot;
 mod compare_write;
 mod coverage;
 mod coverage_page;
+mod coverage_sessions;
 mod coverage_timeslot;
 mod coverage_write;
 
@@ -144,6 +146,9 @@ fn compare(options: &Options, client: Client) -> ExitCode {
         coverage_write::line(&comparison.writing),
         coverage_timeslot::line_of_taking(&comparison.taking),
         coverage_timeslot::line_of_putting(&comparison.putting),
+        coverage_sessions::line_of_opening(&comparison.opening),
+        coverage_sessions::line_of_paging(&comparison.paging_sessions),
+        coverage_sessions::line_of_closing(&comparison.closing),
     ] {
         println!("{line}");
         never.extend(never_in_it);
