@@ -25,7 +25,7 @@ pub record Visit : Type 0 where
   pub answer : Answer
   pub after : List ℕ
 
--- a call on the list, with what it answered
+-- a call on the list, with what it answered: key, capture number and direction; place and key
 pub data Call : Type 0 where
   opens : (key capture direction : ℕ) → Opened → Call
   pages : (place key : ℕ) → Visit → Call
@@ -42,7 +42,7 @@ Made ss (opens key capture direction a) after = OpenCall ss key capture directio
 Made ss (pages place key v) after = SessionPageCall ss place key (v .ask .capture) (v .ask .brought) (v .ask .buffer) (v .answer) (v .after) after
 Made ss (closes place key number) after = CloseCall ss place key number after
 
--- from a session's opening to its closing: its own harvester asks a page, or somebody calls
+-- from a session's opening to its closing: its own harvester asks a page, or somebody else calls
 pub data Turn : Type 0 where
   mine : Visit → Turn
   other : Call → Turn
@@ -94,5 +94,6 @@ abbrev pub askedBy : List Visit → List Asked
 askedBy [] = []
 askedBy (v ∷ vs) = record { most = v .ask .brought .most; buffer = v .ask .buffer; answer = v .answer; after = v .after } ∷ askedBy vs
 
+-- what is agreed of the session's capture
 abbrev pub termsWith : ℕ → ℕ → TermNumbers
 termsWith direction profile = record { direction = direction; profile = profile }

@@ -40,6 +40,7 @@ abbrev pub newSession : ℕ → ℕ → ℕ → Session
 newSession key capture direction =
     record { used = 1; key = key; position = zeros .position; context = zeros .context; capture = capture; direction = direction }
 
+-- what opening answers
 abbrev pub openedAt : ℕ → ℕ → Opened
 openedAt number place = record { number = number; place = place }
 
