@@ -95,12 +95,12 @@ fn page_at(
     ensures { λ r. ⌜ PagedAt session places key (now (capture .entry)) (brought n profile most) (now (buffer .entry)) r (now (buffer .exit)) ⌝ }
 {
     let table = dplaces::table();
-    let a = Brought {
+    let brought = Brought {
         n: n,
         profile: profile,
         most: most,
     };
-    serving::page_at(session, places, key, capture, a, &table, buffer)
+    serving::page_at(session, places, key, capture, brought, &table, buffer)
 }
 
 // A page of the session at a place: as `bellrope_page` with the session's direction and cursor; the session keeps the cursor that is answered.

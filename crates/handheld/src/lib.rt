@@ -94,12 +94,12 @@ fn page_at(
     ensures { λ r. ⌜ PagedAt session places key (now (capture .entry)) (brought n profile most) (now (buffer .entry)) r (now (buffer .exit)) ⌝ }
 {
     let none = [0u8; 0];
-    let a = Brought {
+    let brought = Brought {
         n: n,
         profile: profile,
         most: most,
     };
-    serving::page_at(session, places, key, capture, a, &none, buffer)
+    serving::page_at(session, places, key, capture, brought, &none, buffer)
 }
 
 // A page of the session at a place: as `bellrope_page` with the session's direction and cursor; the session keeps the cursor that is answered.

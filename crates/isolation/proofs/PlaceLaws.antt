@@ -1,7 +1,7 @@
 -- Places of a list: the lowest free one, and what it is to hold one.
 -- Assumes nothing.
 use mathlib.Core.Path.{_≡_, refl, sym, _∙_, ap}
-use mathlib.Core.Bool.{Bool, true, false, cond, not, _&&_}
+use mathlib.Core.Bool.{Bool, true, false, cond, not, _&&_, _||_}
 use mathlib.Core.List.{List, [], _∷_}
 use Prim.Native.Nat.{ℕ, zero, suc, _<_, _≤_}
 use native.Mathlib.Decide.{decLt}
@@ -12,7 +12,7 @@ use lib.Dec.{eqb, ltb}
 use lib.ListN.{length, List·getD-eq-default}
 use Rattle.channel.proofs.BoolLaws.{never}
 use Rattle.sessions.specs.declared.Session.{Session}
-use Rattle.sessions.specs.Sessions.{blank, isFree, holds, freeAt}
+use Rattle.sessions.specs.Sessions.{blank, isFree, holds, freeAt, heldIn}
 use Rattle.call.proofs.NumberLaws.{passed}
 use Rattle.serving.specs.Serving.{standing, nameRefusal}
 use Rattle.isolation.specs.Held.{Holds}
@@ -56,6 +56,35 @@ lowest-is ss place free below =
       | no g ↦
           elim (decLt place (freeAt ss)) [ yes l ↦ absurd (never (sym free ∙ taken-below ss place l)) | no h ↦ omega arith ]
     ]
+
+-- number 8: every place of the list is taken
+pub full-taken : (ss : List Session) → freeAt ss ≡ length ss → (i : ℕ) → i < length ss → isFree (standing ss i) ≡ false
+full-taken ss full i l = taken-below ss i (omega (arith, full, l))
+
+-- and where one is not, the list is not full
+pub not-full : (ss : List Session) (i : ℕ) → i < length ss → isFree (standing ss i) ≡ true → freeAt ss < length ss
+not-full ss i l free = elim (decLt i (freeAt ss)) [ yes h ↦ absurd (never (sym free ∙ taken-below ss i h)) | no g ↦ omega arith ]
+
+-- ---- number 9: a taken place has the key
+pub held-at : (ss : List Session) (key i : ℕ) → holds (standing ss i) key ≡ true → heldIn ss key ≡ true
+unfolding heldIn
+held-at [] key i h = absurd (never (sym h))
+held-at (s ∷ ss) key zero h = rw h
+held-at (s ∷ ss) key (suc i) h = or-true (holds s key) (heldIn ss key) (held-at ss key i h)
+  where
+    or-true : (a b : Bool) → b ≡ true → a || b ≡ true
+    or-true true b e = refl
+    or-true false b e = e
+
+pub held-where : (ss : List Session) (key : ℕ) → heldIn ss key ≡ true → (i : ℕ) × (i < length ss) × (holds (standing ss i) key ≡ true)
+unfolding heldIn
+held-where [] key h = absurd (never (sym h))
+held-where (s ∷ ss) key h = go (holds s key) refl h (held-where ss key)
+  where
+    go : (a : Bool) → holds s key ≡ a → a || heldIn ss key ≡ true → (heldIn ss key ≡ true → (i : ℕ) × (i < length ss) × (holds (standing ss i) key ≡ true))
+        → (i : ℕ) × (i < suc (length ss)) × (holds (standing (s ∷ ss) i) key ≡ true)
+    go true e h ih = (0, omega arith, e)
+    go false e h ih = let (i, l, held) = ih h in (suc i, omega arith, held)
 
 -- ---- a place that is held
 abbrev and-true : (a b : Bool) → not a && b ≡ true → (a ≡ false) × (b ≡ true)

@@ -164,16 +164,16 @@ pub fn close_at(session: Session, places: usize, key: u64) -> Closing
 }
 
 // What is asked of a page, by the session and by the call.
-fn request(session: Session, a: Brought) -> PageRequest
-    ensures { λ r. ⌜ r ≡ requestOf session a ⌝ }
+fn request(session: Session, brought: Brought) -> PageRequest
+    ensures { λ r. ⌜ r ≡ requestOf session brought ⌝ }
 {
     call::page_request(
-        a.n,
+        brought.n,
         session.direction,
-        a.profile,
+        brought.profile,
         session.position,
         session.context,
-        a.most,
+        brought.most,
     )
 }
 
@@ -209,18 +209,18 @@ pub fn page_at(
     places: usize,
     key: u64,
     capture: &[u8],
-    a: Brought,
+    brought: Brought,
     table: &[u8],
     buffer: &mut [u8],
 ) -> Paged
     requires { ⌜ Lent (now table) ⌝ }
-    ensures { λ r. ⌜ PagedAt session places key (now (capture .entry)) a (now (buffer .entry)) r (now (buffer .exit)) ⌝ }
+    ensures { λ r. ⌜ PagedAt session places key (now (capture .entry)) brought (now (buffer .entry)) r (now (buffer .exit)) ⌝ }
 {
     let refusal = name_refusal(session, places, key);
     if refusal != 0 {
         return refused(session, refusal);
     }
-    let answer = paging::page(capture, request(session, a), table, buffer);
+    let answer = paging::page(capture, request(session, brought), table, buffer);
     Paged {
         session: moved(session, answer),
         answer: answer,
