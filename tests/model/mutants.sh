@@ -98,7 +98,7 @@ mutant "paging by profile 0" page.rs 's/profile: request.profile/profile: 0/'
 mutant "writing by profile 0" write.rs 's/profile: self.profile/profile: 0/'
 # Captures that grow.
 mutant "growing: a bit behind n looked at" capture.rs 's/bits.truncate(n)/bits.truncate(n + 1)/'
-mutant "growing: a look at one bit more" requests.rs 's/self.capture.bits\[..n\]/self.capture.bits[..n + 1]/'
+mutant "growing: a look at one bit more" requests.rs 's/self.capture.bits\[..n\]/self.capture.bits[..(n + 1).min(self.capture.bits.len())]/'
 mutant "growing: bits before n changed between looks" requests.rs '/pub fn cut/,/^    }/s/garbage(rng, &mut bytes, n)/garbage(rng, \&mut bytes, n.saturating_sub(8))/'
 mutant "growing: the last item kept" compare_growth.rs 's/reply.answer.items - 1;/reply.answer.items;/'
 mutant "growing: two items left out" compare_growth.rs 's/reply.answer.items - 1;/reply.answer.items - 2;/'
