@@ -1,4 +1,6 @@
 // Which kinds may be items in a context: rule 2 of reading.
+#![tactic(auto)]
+
 ghost use Rattle.std.specs.Prelude.{◌≡◌, cond, eqb};
 ghost use Rattle.channel.specs.Verdict.{starts_by, follows};
 

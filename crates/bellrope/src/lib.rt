@@ -1,5 +1,7 @@
 // The calls of the C front server: the numbers and byte slices of each, handed to the room that does the work, with its promise. The table of D places is
 // lent to it.
+#![tactic(auto)]
+
 ghost use Rattle.paging.specs.Paging.{PageCall};
 ghost use Rattle.writing.specs.Writing.{WriteCall};
 ghost use Rattle.timeslot.specs.Timeslot.{TakeCall, PutCall};

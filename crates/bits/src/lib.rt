@@ -1,4 +1,6 @@
 // Bits of lent bytes, and a frame's twenty octets by value.
+#![tactic(auto)]
+
 ghost use Rattle.std.specs.Prelude.{◌≡◌, ◌+◌, ◌*◌, ◌-◌, ◌/◌, ◌%◌, ◌^◌, ◌<◌, ◌≤◌, length, get_or};
 ghost use Rattle.bits.specs.Bit.{bit_at, octet_of, twenty, bits_from};
 

@@ -1,25 +1,27 @@
 // What a call brings as numbers, and what it answers. The numbers are any there can be: each call judges them.
+#![tactic(auto)]
+
 ghost use Rattle.std.specs.Prelude.{◌≡◌};
 ghost use Rattle.call.specs.Call.{page_request, write_request, terms_by, next, refused_at};
 
 use channel::{Direction, Terms};
 
 // What is agreed of a capture besides its bits: its direction, and its profile, which may be any byte.
-#[derive(Drop)]
+#[derive(Clone, Copy)]
 pub struct TermNumbers {
     pub direction: u64,
     pub profile: u8,
 }
 
 // A cursor: position and context.
-#[derive(Drop)]
+#[derive(Clone, Copy)]
 pub struct CursorNumbers {
     pub position: u64,
     pub context: u64,
 }
 
 // What is asked of a page: how many bits the capture has, what is agreed of it, the cursor, and most items.
-#[derive(Drop)]
+#[derive(Clone, Copy)]
 pub struct PageRequest {
     pub n: u64,
     pub terms: TermNumbers,
@@ -28,7 +30,7 @@ pub struct PageRequest {
 }
 
 // What is asked of writing: what is agreed of the capture that the bits are for, and the cursor.
-#[derive(Drop)]
+#[derive(Clone, Copy)]
 pub struct WriteRequest {
     pub terms: TermNumbers,
     pub cursor: CursorNumbers,
@@ -77,7 +79,7 @@ pub fn write_request(direction: u64, profile: u8, position: u64, context: u64) -
 
 // What a call answers: its number (0, or that of the refusal), the index of the record refused, the items and bytes, and the cursor moved on.
 #[repr(C)]
-#[derive(Drop)]
+#[derive(Clone, Copy)]
 pub struct Answer {
     pub number: u64,
     pub index: u64,

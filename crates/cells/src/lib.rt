@@ -1,4 +1,6 @@
 // What the bit at each place of a frame is called.
+#![tactic(auto)]
+
 ghost use Rattle.std.specs.Prelude.{◌≡◌, List, ℕ, ◌<◌, length};
 ghost use Rattle.bits.specs.Bit.{bit_at};
 ghost use Rattle.channel.specs.Places.{d_places};
@@ -11,7 +13,7 @@ use masks::covered;
 
 // What a bit is called in the drawings: a fixed zero or one, C1.., XC1.., CRC2.., D1.., D'1.. (the second half of a data frame), T1.., T alone;
 // or nothing, if no table has its place.
-#[derive(Drop)]
+#[derive(Clone, Copy)]
 pub enum Cell {
     Zero,
     One,

@@ -1,8 +1,9 @@
 // The 8 kbit/s channel of TS 48.061, clause 5.2, as definitions in specs/ and laws in proofs/. Here stand only its names, which the code above
 // shares with the definitions.
+#![tactic(auto)]
 
 // Which way a capture was taken.
-#[derive(Drop)]
+#[derive(Clone, Copy)]
 pub enum Direction {
     Uplink,
     Downlink,
@@ -10,14 +11,14 @@ pub enum Direction {
 
 // What is agreed of a capture besides its bits: its direction, and its profile, whose bit k, 0 the lowest, tells whether No_Speech frames of class k carry
 // a CRC (document 02, Ask 1). It is passed by value wherever the bits are read or written, so that a term more is a change here and where that term matters.
-#[derive(Drop)]
+#[derive(Clone, Copy)]
 pub struct Terms {
     pub direction: Direction,
     pub profile: u8,
 }
 
 // The synchronisation patterns (5.2.1 to 5.2.3).
-#[derive(Drop)]
+#[derive(Clone, Copy)]
 pub enum Pattern {
     Hr,
     Low,
@@ -26,7 +27,7 @@ pub enum Pattern {
 }
 
 // The kinds of frame, numbered from 1.
-#[derive(Drop)]
+#[derive(Clone, Copy)]
 pub enum Kind {
     Speech,
     Data,
@@ -39,7 +40,7 @@ pub enum Kind {
 }
 
 // A kind, or none.
-#[derive(Drop)]
+#[derive(Clone, Copy)]
 pub enum Found {
     Is(Kind),
     Nothing,

@@ -1,4 +1,6 @@
 // The kind of a frame by its fixed bits and its coding.
+#![tactic(auto)]
+
 pub mod places;
 
 ghost use Rattle.std.specs.Prelude.{◌≡◌, true, not, ◌&&◌, [], ◌∷◌, List, ◌<◌, ℕ};
@@ -14,7 +16,7 @@ use channel::{Direction, Found, Kind, Pattern, Terms};
 use word::Words;
 
 // A pattern, or none.
-#[derive(Drop)]
+#[derive(Clone, Copy)]
 pub enum Sync {
     In(Pattern),
     Nowhere,

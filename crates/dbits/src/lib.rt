@@ -1,4 +1,6 @@
 // The D bits of a frame in bytes, by the plan of its kind.
+#![tactic(auto)]
+
 ghost use Rattle.std.specs.Prelude.{◌≡◌, map, ◌++◌, ℕ, ◌+◌, ◌*◌, ◌≤◌, ◌<◌, length, drop, replicate};
 ghost use Rattle.bits.specs.Bit.{bit_at, count};
 ghost use Rattle.channel.specs.Record.{d_bytes};

@@ -1,4 +1,6 @@
 // The places of the D bits of the eight kinds, in one flat table.
+#![tactic(auto)]
+
 mod places;
 
 ghost use Rattle.std.specs.Prelude.{◌≡◌};

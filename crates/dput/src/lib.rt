@@ -1,4 +1,6 @@
 // The way back: the D bits of a frame put at their places, by the plan of its kind.
+#![tactic(auto)]
+
 ghost use Rattle.std.specs.Prelude.{◌≡◌, List, ℕ, ◌+◌, ◌*◌, ◌/◌, ◌%◌, ◌≤◌, ◌<◌, length, get_or};
 ghost use Rattle.bits.specs.Bit.{bit_at};
 ghost use Rattle.channel.specs.Kinds.{d_count};

@@ -1,4 +1,6 @@
 // The drawings of the eight kinds of frame as one text, put into a lent buffer.
+#![tactic(auto)]
+
 ghost use Rattle.std.specs.Prelude.{◌+◌, ◌≤◌, length};
 ghost use Rattle.text.specs.Text.{Put};
 ghost use Rattle.drawing.specs.Drawing.{heading_of, drawing_of, all_drawings};

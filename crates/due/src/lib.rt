@@ -1,4 +1,6 @@
 // The number that refuses a sound record at a cursor: where it is not the one due there, or would end past the buffer.
+#![tactic(auto)]
+
 ghost use Rattle.std.specs.Prelude.{◌≡◌, ◌≤◌};
 ghost use Rattle.masks.specs.Kept.{Kept};
 ghost use Rattle.item.specs.Item.{cursor_of};

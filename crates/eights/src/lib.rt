@@ -1,4 +1,6 @@
 // The places of the D bits of a byte: looked up where the table is lent, worked out where nothing is. Who asks cannot tell.
+#![tactic(auto)]
+
 ghost use Rattle.std.specs.Prelude.{◌≡◌, ◌*◌, ◌≤◌, ◌<◌, length};
 ghost use Rattle.bits.specs.Bit.{bit_at};
 ghost use Rattle.channel.specs.Kinds.{d_count};

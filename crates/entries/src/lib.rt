@@ -1,11 +1,13 @@
 // How two neighbouring octets make the byte of the bits at up to eight places, worked out from the places.
+#![tactic(auto)]
+
 ghost use Rattle.std.specs.Prelude.{◌≡◌, List, ℕ, ◌+◌, ◌^◌, ◌≤◌, ◌<◌, length};
 ghost use Rattle.fields.specs.Below.{Below};
 ghost use Rattle.entries.specs.Entry.{Rising, Whole, FirstRun, FirstBy, FirstEnds, back_of, EntryBy};
 
 // How the bits at some places make a byte: octet m % 256 by the factor f, and the next by the factor h under the mask m. Where they do not make it so, f is 1.
 // How the byte is put back stands above the mask.
-#[derive(Drop)]
+#[derive(Clone, Copy)]
 pub struct Entry {
     pub m: u32,
     pub f: u32,

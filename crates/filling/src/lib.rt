@@ -1,4 +1,6 @@
 // Filling: records from a cursor on into a lent buffer, as many as are asked for, as are there and as fit.
+#![tactic(auto)]
+
 ghost use Rattle.std.specs.Prelude.{◌*◌, ◌≤◌, length};
 ghost use Rattle.reading.specs.Paging.{Filled};
 ghost use Rattle.channel.specs.Frames.{capture_of, rules};
@@ -10,7 +12,7 @@ use channel::Terms;
 use item::Cursor;
 
 // The items and bytes of a page, and the cursor moved on over them.
-#[derive(Drop)]
+#[derive(Clone, Copy)]
 pub struct Counted {
     pub items: u64,
     pub bytes: usize,

@@ -1,4 +1,6 @@
 // The same calls for the handheld probe, with the same promises: no table is lent, so the places of D bits are worked out.
+#![tactic(auto)]
+
 ghost use Rattle.paging.specs.Paging.{PageCall};
 ghost use Rattle.writing.specs.Writing.{WriteCall};
 ghost use Rattle.timeslot.specs.Timeslot.{TakeCall, PutCall};

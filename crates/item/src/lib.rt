@@ -1,4 +1,6 @@
 // An item as the code has it, and the cursor that moves over it.
+#![tactic(auto)]
+
 ghost use Rattle.std.specs.Prelude.{◌≡◌, ◌≤◌};
 ghost use Rattle.reading.specs.Reading.{over};
 ghost use Rattle.channel.specs.Frames.{rules};
@@ -7,14 +9,14 @@ ghost use Rattle.item.specs.Item.{item_of, cursor_of};
 use channel::Kind;
 
 // What an item is: a frame of a kind, or a gap.
-#[derive(Drop)]
+#[derive(Clone, Copy)]
 pub enum ItemKind {
     Frame(Kind),
     Gap,
 }
 
 // An item. The octets are the frame's first bits (zeros for a gap), the length is that of the tail or of the gap, the verdict of a gap is 0.
-#[derive(Drop)]
+#[derive(Clone, Copy)]
 pub struct Item {
     pub kind: ItemKind,
     pub octets: [u8; 20],
@@ -24,7 +26,7 @@ pub struct Item {
 }
 
 // A cursor: a value that goes in and comes back.
-#[derive(Drop)]
+#[derive(Clone, Copy)]
 pub struct Cursor {
     pub position: usize,
     pub context: u8,

@@ -1,4 +1,6 @@
 // A record judged: the frame that it is the sound record of, or that it is unsound.
+#![tactic(auto)]
+
 ghost use Rattle.std.specs.Prelude.{◌≡◌, ◌≤◌, ◌<◌, length};
 ghost use Rattle.bits.specs.Bit.{bit_at};
 ghost use Rattle.channel.specs.Coding.{is_body};

@@ -1,4 +1,6 @@
 // The table of kinds.
+#![tactic(auto)]
+
 ghost use Rattle.std.specs.Prelude.{◌≡◌};
 ghost use Rattle.channel.specs.Kinds.{kind_no, body_of, least_tail};
 

@@ -1,4 +1,6 @@
 // Eight octets as one number, the first lowest, and the same bit of each of them as a byte.
+#![tactic(auto)]
+
 ghost use Rattle.std.specs.Prelude.{◌≡◌, Bool, List, map, ℕ, ◌+◌, ◌*◌, ◌^◌, ◌<◌, ◌≤◌, length, get_or};
 ghost use Rattle.bits.specs.Bit.{to_n, number, count};
 ghost use Rattle.bits.specs.Put.{put_in};

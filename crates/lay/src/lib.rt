@@ -1,4 +1,6 @@
 // The body of a frame laid into a lent buffer.
+#![tactic(auto)]
+
 ghost use Rattle.std.specs.Prelude.{◌≡◌, map, ◌+◌, ◌*◌, ◌≤◌, length};
 ghost use Rattle.bits.specs.Bit.{bit_at, count};
 ghost use Rattle.bits.specs.Put.{put_bits};

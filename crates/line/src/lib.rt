@@ -1,4 +1,6 @@
 // The text of one line of the listing, put into a lent buffer.
+#![tactic(auto)]
+
 ghost use Rattle.std.specs.Prelude.{◌∷◌, [], ◌+◌, ◌≤◌, length};
 ghost use Rattle.text.specs.Text.{decimal_of, Put};
 ghost use Rattle.line.specs.Line.{spaced, refusal_line};

@@ -1,4 +1,6 @@
 // The lines of a page: its records taken apart, one after the other, and the line of each put into a lent buffer.
+#![tactic(auto)]
+
 ghost use Rattle.std.specs.Prelude.{◌≡◌, ◌+◌, ◌≤◌, ◌<◌, length, get_or};
 ghost use Rattle.lines.specs.Lines.{sizes, Recorded, Lined, Records, AllLined};
 

@@ -1,4 +1,6 @@
 // Lists the items of a capture: standard input is one byte of direction, then the capture, of which every bit counts.
+#![tactic(auto)]
+
 use libc::{STDIN_FILENO, STDOUT_FILENO};
 
 // Reads, lists and writes. One byte more than a capture may have is read, for then paging itself refuses a capture that is too long.

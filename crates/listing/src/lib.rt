@@ -1,4 +1,6 @@
 // The listing of some input as one text, put into a lent buffer page by page.
+#![tactic(auto)]
+
 ghost use Rattle.std.specs.Prelude.{◌≡◌, ◌≤◌, ◌<◌, length, get_or};
 ghost use Rattle.listing.specs.Listing.{Text, Listing, Listed};
 

@@ -1,4 +1,6 @@
 // The masks of the covered lists: worked out of a list when its first frame comes, and kept for the rest of the call.
+#![tactic(auto)]
+
 pub mod covered;
 
 ghost use Rattle.std.specs.Prelude.{◌≡◌, [], ◌≤◌, ◌<◌, get_or};

@@ -1,4 +1,6 @@
 // The names of a frame's bits as text, and the line of an octet.
+#![tactic(auto)]
+
 ghost use Rattle.std.specs.Prelude.{◌≡◌, ◌+◌, ◌≤◌, ◌<◌, length};
 ghost use Rattle.text.specs.Text.{Put};
 ghost use Rattle.names.specs.Names.{lettered_of, name_of, octet_of};

@@ -1,4 +1,6 @@
 // The numbers of a record: four bytes each, the high byte first. In proofs/ also how long records are.
+#![tactic(auto)]
+
 ghost use Rattle.std.specs.Prelude.{◌≡◌, ◌+◌, ◌*◌, ◌≤◌, length};
 ghost use Rattle.channel.specs.Record.{number_at};
 

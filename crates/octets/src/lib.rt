@@ -1,4 +1,6 @@
 // The twenty octets of a frame, built from the bytes of its record: fixed bits, then control, extended and D bits at their places, then the parities.
+#![tactic(auto)]
+
 ghost use Rattle.std.specs.Prelude.{◌≡◌, ◌+◌, ◌≤◌, ◌<◌, length, get_or, drop};
 ghost use Rattle.bits.specs.Bit.{bit_at};
 ghost use Rattle.fields.specs.Below.{Below};

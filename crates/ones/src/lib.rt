@@ -1,4 +1,6 @@
 // The ones of a tail laid into a lent buffer.
+#![tactic(auto)]
+
 ghost use Rattle.std.specs.Prelude.{◌≡◌, true, ◌+◌, ◌*◌, ◌≤◌, length, replicate};
 ghost use Rattle.bits.specs.Put.{put_bits};
 

@@ -1,4 +1,6 @@
 // Paging: the longest leading part of the reading from a cursor that keeps to a count and fits a lent buffer.
+#![tactic(auto)]
+
 ghost use Rattle.std.specs.Prelude.{◌≡◌, ◌&&◌, eqb, ltb};
 ghost use Rattle.dplaces.specs.DPlaces.{Lent};
 ghost use Rattle.item.specs.Item.{cursor_of};

@@ -1,4 +1,6 @@
 // A record taken from its bytes: kind, octets, start, tail and verdict by what they say, or unsound.
+#![tactic(auto)]
+
 ghost use Rattle.std.specs.Prelude.{◌≡◌, ◌<◌, length};
 ghost use Rattle.plans.specs.Plan.{Plans};
 ghost use Rattle.parse.specs.Parsed.{kind_by, unsound_record, frame_item, RecordBy, PlanFor};
@@ -7,14 +9,14 @@ use channel::{Found, Kind};
 use item::{Item, ItemKind};
 
 // What a record is: that of a frame of a kind, or unsound.
-#[derive(Drop)]
+#[derive(Clone, Copy)]
 pub enum RecordKind {
     Frame(Kind),
     Unsound,
 }
 
 // A record: the octets of its frame, start, tail and verdict; all zeros where it is unsound.
-#[derive(Drop)]
+#[derive(Clone, Copy)]
 pub struct Record {
     pub kind: RecordKind,
     pub octets: [u8; 20],

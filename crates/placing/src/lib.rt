@@ -1,4 +1,6 @@
 // The place of a D bit worked out from its number (document 02, Ask 4), which the table of D places would give too.
+#![tactic(auto)]
+
 ghost use Rattle.std.specs.Prelude.{◌≡◌, ◌++◌, ◌*◌, ◌<◌, ◌≤◌, drop, replicate};
 ghost use Rattle.channel.specs.declared.Kind.{Kind};
 ghost use Rattle.channel.specs.Kinds.{d_count};

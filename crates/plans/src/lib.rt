@@ -1,4 +1,6 @@
 // Plans of the D bytes: the entries of each byte of a kind, worked out when they are first wanted.
+#![tactic(auto)]
+
 ghost use Rattle.std.specs.Prelude.{◌≡◌, List, ℕ, ◌≤◌, ◌<◌, length};
 ghost use Rattle.channel.specs.Places.{d_places};
 ghost use Rattle.dplaces.specs.DPlaces.{Lent};

@@ -1,4 +1,6 @@
 // Bits put into bytes: a run of bits inside one byte, one bit, and a byte of bits that stand over two.
+#![tactic(auto)]
+
 ghost use Rattle.std.specs.Prelude.{◌≡◌, Bool, List, [], ◌∷◌, map, ℕ, ◌+◌, ◌*◌, ◌-◌, ◌/◌, ◌%◌, ◌^◌, ◌<◌, ◌≤◌, length, get_or};
 ghost use Rattle.bits.specs.Bit.{bit_at, count};
 ghost use Rattle.put.specs.Put.{put_run, Shows};

@@ -1,4 +1,6 @@
 // The bits of frames put, by their records, all of which are taken.
+#![tactic(auto)]
+
 ghost use Rattle.std.specs.Prelude.{◌≡◌, ◌*◌, ◌≤◌, length};
 ghost use Rattle.bits.specs.Put.{put_bits};
 ghost use Rattle.channel.specs.Frames.{behind};

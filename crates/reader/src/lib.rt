@@ -1,4 +1,6 @@
 // The item at a cursor: the frame that is due there, or the gap to the next place where a frame starts a run.
+#![tactic(auto)]
+
 ghost use Rattle.std.specs.Prelude.{◌≡◌, ◌+◌, ◌*◌, ◌<◌, ◌≤◌, length};
 ghost use Rattle.channel.specs.Frames.{capture_of};
 ghost use Rattle.masks.specs.Kept.{Kept};

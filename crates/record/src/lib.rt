@@ -1,4 +1,6 @@
 // The record of an item, written into a lent part of a buffer.
+#![tactic(auto)]
+
 ghost use Rattle.std.specs.Prelude.{◌≡◌, ◌++◌, ◌∷◌, ◌+◌, ◌≤◌, length, take, drop};
 ghost use Rattle.bits.specs.Bit.{bit_at};
 ghost use Rattle.channel.specs.Control.{control, extended};

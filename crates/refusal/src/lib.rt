@@ -1,4 +1,6 @@
 // The numbers 1 to 3, in their order, by which a request is refused before the capture or the records are read; 0 where none of them is given.
+#![tactic(auto)]
+
 ghost use Rattle.std.specs.Prelude.{◌≡◌};
 ghost use Rattle.refusal.specs.Refusal.{page_refusal, write_refusal};
 

@@ -1,4 +1,6 @@
 // The bits of some bytes put at the places of a frame, eight places for each byte.
+#![tactic(auto)]
+
 ghost use Rattle.std.specs.Prelude.{◌≡◌, ◌+◌, ◌*◌, ◌-◌, ◌<◌, ◌≤◌, length};
 ghost use Rattle.bits.specs.Bit.{bit_at};
 ghost use Rattle.fields.specs.Below.{Below};

@@ -1,4 +1,6 @@
 // What opening, closing and paging a session decide of what stands at a place of the list, by value: what stands there after, and what is answered.
+#![tactic(auto)]
+
 ghost use Rattle.std.specs.Prelude.{◌≡◌};
 ghost use Rattle.dplaces.specs.DPlaces.{Lent};
 ghost use Rattle.call.specs.Call.{next};
@@ -10,14 +12,14 @@ use sessions::{Found, Session};
 
 // What opening answers: its number (0, or that of the refusal), and the place taken, 0 where it is refused.
 #[repr(C)]
-#[derive(Drop)]
+#[derive(Clone, Copy)]
 pub struct Opened {
     pub number: u64,
     pub place: u64,
 }
 
 // What comes of opening: where the session is stored (behind the list where it is refused), the session, and what is answered.
-#[derive(Drop)]
+#[derive(Clone, Copy)]
 pub struct Opening {
     pub place: usize,
     pub session: Session,
@@ -25,14 +27,14 @@ pub struct Opening {
 }
 
 // What comes of closing: what stands at the place after, and the number.
-#[derive(Drop)]
+#[derive(Clone, Copy)]
 pub struct Closing {
     pub session: Session,
     pub number: u64,
 }
 
 // What a call brings for a page besides the capture's bytes and the buffer; direction and cursor are the session's.
-#[derive(Drop)]
+#[derive(Clone, Copy)]
 pub struct Brought {
     pub n: u64,
     pub profile: u8,
@@ -40,7 +42,7 @@ pub struct Brought {
 }
 
 // What comes of a page: what stands at the place after, and what is answered.
-#[derive(Drop)]
+#[derive(Clone, Copy)]
 pub struct Paged {
     pub session: Session,
     pub answer: Answer,

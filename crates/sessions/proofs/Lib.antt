@@ -1,5 +1,3 @@
 -- The laws of this crate, for the crates above it.
 -- Assumes nothing.
-pub mod Again
-pub mod Share
 pub mod FindLaws

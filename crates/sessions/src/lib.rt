@@ -1,11 +1,13 @@
 // A lent list of sessions (document 02, Ask 5): one place of it found, looked at, stored. The three functions that are lent the list are thin.
+#![tactic(auto)]
+
 ghost use Rattle.std.specs.Prelude.{◌≡◌, get_or, set};
 ghost use Rattle.sessions.specs.Sessions.{blank, found_in};
 ghost use Rattle.sessions.specs.Search.{noted_one};
 
 // A place of the list: free where `used` is 0, taken where it is any other number, and then it holds a key, a cursor, a capture number and a direction.
 #[repr(C)]
-#[derive(Drop)]
+#[derive(Clone, Copy)]
 pub struct Session {
     pub used: u64,
     pub key: u64,
@@ -16,7 +18,7 @@ pub struct Session {
 }
 
 // What a search has found: the lowest free place (the number of places where there is none), and whether the key is held.
-#[derive(Drop)]
+#[derive(Clone, Copy)]
 pub struct Found {
     pub free: usize,
     pub held: bool,

@@ -1,4 +1,6 @@
 // Where frames may begin: eight zeros and a one, looked for by the byte.
+#![tactic(auto)]
+
 ghost use Rattle.std.specs.Prelude.{◌≡◌, true, false, ℕ, ◌+◌, ◌*◌, ◌<◌, ◌≤◌, length};
 ghost use Rattle.bits.specs.Bit.{bit_at};
 ghost use Rattle.sync.specs.Sync.{SyncedIn, SyncFrom};

@@ -1,4 +1,6 @@
 // The tail behind a frame's body.
+#![tactic(auto)]
+
 ghost use Rattle.std.specs.Prelude.{◌*◌, ◌≤◌, ◌<◌, length};
 ghost use Rattle.channel.specs.declared.Terms.{Terms as Agreed};
 ghost use Rattle.channel.specs.Frames.{capture_of, Tail};

@@ -1,4 +1,6 @@
 // Records taken one by one, up to the first that fails.
+#![tactic(auto)]
+
 ghost use Rattle.std.specs.Prelude.{◌≤◌, length};
 ghost use Rattle.plans.specs.Plan.{Plans};
 ghost use Rattle.masks.specs.Kept.{Kept};
@@ -10,7 +12,7 @@ use item::{Cursor, ItemKind};
 use parse::RecordKind;
 
 // What comes of records: the number that decides, how many are taken before it, and the cursor moved on over them.
-#[derive(Drop)]
+#[derive(Clone, Copy)]
 pub struct Judged {
     pub number: u64,
     pub items: u64,

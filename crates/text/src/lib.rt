@@ -1,4 +1,6 @@
 // Text put together in a lent buffer: bytes at a place, and a number in decimal.
+#![tactic(auto)]
+
 ghost use Rattle.std.specs.Prelude.{◌≡◌, ◌+◌, ◌%◌, ◌≤◌, length, drop};
 ghost use Rattle.text.specs.Text.{decimal_of, Put};
 

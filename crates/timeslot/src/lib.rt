@@ -1,4 +1,6 @@
 // The whole timeslot: one of its eight channels taken out, and put back.
+#![tactic(auto)]
+
 ghost use Rattle.std.specs.Prelude.{◌≡◌, List, ◌++◌, ℕ, ◌+◌, ◌*◌, ◌<◌, ◌≤◌, length, get_or, drop};
 ghost use Rattle.bits.specs.Bit.{octet_of, bits_from};
 ghost use Rattle.timeslot.specs.Timeslot.{channel_bit, bytes_for, taken_out, put_back, outside, refusal, TakeCall, PutCall};

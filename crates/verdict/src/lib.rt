@@ -1,4 +1,6 @@
 // The verdict byte of a frame in a context, and the context that the frame leaves.
+#![tactic(auto)]
+
 ghost use Rattle.std.specs.Prelude.{◌≡◌, List, ℕ, ◌+◌, ◌*◌, ◌≤◌, ◌<◌, eqb};
 ghost use Rattle.bits.specs.Bit.{bit_at, to_n};
 ghost use Rattle.channel.specs.declared.Kind.TheVariants.{NoSpeech, Lower};

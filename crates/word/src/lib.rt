@@ -1,4 +1,6 @@
 // A frame's octets as three words, whose fixed bits are tested at once.
+#![tactic(auto)]
+
 ghost use Rattle.std.specs.Prelude.{◌≡◌, not, ◌&&◌, List, ℕ, ◌+◌, ◌*◌, ◌-◌, ◌%◌, ◌^◌, ◌≤◌, ◌<◌, length};
 ghost use Rattle.std.specs.Int.Count.{ones};
 ghost use Rattle.bits.specs.Bit.{bit_at, number, count};
@@ -6,7 +8,7 @@ ghost use Rattle.channel.specs.Coding.{Word, bits_at, all};
 ghost use Rattle.word.specs.Words.{field_at, four_at, Holds, FixedBy};
 
 // A frame's octets as three numbers, the first octet on top: 1 to 8, 9 to 16, 17 to 20.
-#[derive(Drop)]
+#[derive(Clone, Copy)]
 pub struct Words {
     pub a: u64,
     pub b: u64,

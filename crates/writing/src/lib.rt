@@ -1,4 +1,6 @@
 // Writing: records back to bits. All of them are judged before the first bit is put, so that a refusal leaves the buffer as it was.
+#![tactic(auto)]
+
 ghost use Rattle.dplaces.specs.DPlaces.{Lent};
 ghost use Rattle.writing.specs.Writing.{WriteCall};
 

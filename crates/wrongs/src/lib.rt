@@ -1,4 +1,6 @@
 // Which CRCs of a frame are wrong, by the masks of their covered lists, which are worked out where they are not there yet.
+#![tactic(auto)]
+
 ghost use Rattle.std.specs.Prelude.{◌≡◌, not, List, [], ◌∷◌, ℕ, ◌+◌, ◌≤◌, ◌<◌, length, get_or};
 ghost use Rattle.bits.specs.Bit.{bit_at, to_n};
 ghost use Rattle.channel.specs.Crc.{right};
