@@ -1,13 +1,31 @@
 // Lists the items of a capture: standard input is one byte of direction, then the capture, of which every bit counts.
 #![tactic(auto)]
 
-use libc::{STDIN_FILENO, STDOUT_FILENO};
+ghost use Rattle.std.specs.Prelude.{◌≤◌, IfOk, length};
+
+use std::io;
+use std::io::Read;
+
+// Reads until the buffer is full or the input ends, and answers how many bytes were read.
+fn read_full<R: Read>(reader: &mut R, input: &mut [u8]) -> io::Result<usize>
+    ensures { IfOk result (λ got. got ≤ length input.new) }
+{
+    let mut got: usize = 0;
+    while got < input.len() {
+        let more = reader.read(&mut input[got..])?;
+        if more == 0 {
+            break;
+        }
+        got += more;
+    }
+    Ok(got)
+}
 
 // Reads, lists and writes. One byte more than a capture may have is read, for then paging itself refuses a capture that is too long.
-fn main() {
+fn main(rt: HostRuntime) -> io::Result<()> {
     let mut input = [0u8; 65538];
-    let got = io::read_full(STDIN_FILENO, &mut input);
+    let got = read_full(&mut rt.stdin(), &mut input)?;
     let mut text = [0u8; 524544];
     let end = listing::listing(&input[..got], &mut text);
-    io::write_all(STDOUT_FILENO, &text[..end]);
+    rt.write_all(&text[..end])
 }

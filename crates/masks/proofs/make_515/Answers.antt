@@ -1,10 +1,26 @@
 -- `masks::make_515` meets its contract: each list of the code is that of the definition, by computing both.
 -- Assumes nothing.
-use mathlib.Core.Path.{◌≡◌}
-use Rattle.masks.proofs.KeptLaws.{fourth}
+use Rattle.std.proofs.Common.{◌≡◌, refl, sym, ◌∙◌, lit<, arith}
+use Rattle.channel.specs.Places.{d_places}
+use Rattle.masks.proofs.KeptLaws.{asked, of_515}
 use Rattle.masks.proofs.make_515.Goals as goal
 
+-- arm by arm what `put_masks` asks, and then what it leaves
+pub put_masks-requires : goal.put_masks-requires
+unfolding d_places
+put_masks-requires c = asked (lit< tt) c.requires.2 (refl ∙ sym (of_515 0 (lit< tt))) tt
+
+pub put_masks-requires-in-6 : goal.put_masks-requires-in-6
+unfolding d_places
+put_masks-requires-in-6 c = asked (lit< tt) c.requires.2 (refl ∙ sym (of_515 1 (lit< tt))) tt
+
+pub put_masks-requires-in-7 : goal.put_masks-requires-in-7
+unfolding d_places
+put_masks-requires-in-7 c = asked (lit< tt) c.requires.2 (refl ∙ sym (of_515 2 (lit< tt))) tt
+
+pub put_masks-requires-in_default : goal.put_masks-requires-in_default
+unfolding d_places
+put_masks-requires-in_default c = asked (lit< tt) c.requires.2 (refl ∙ sym (of_515 3 (lit< tt))) tt
+
 pub returns-in_default : goal.returns-in_default
-returns-in_default c =
-    let e : c.args.i ≡ 8 = fourth 5 _ c.requires.0 c.requires.1 c.in-5.rest.0.0.1 c.in-5.rest.0.1 c.in-5.rest.1 in
-    rw e c.put_masks-in_default.ensures
+returns-in_default c = let e : c.args.i ≡ 8 = omega arith in rw e c.put_masks-in_default.ensures
