@@ -1,6 +1,6 @@
 -- `bits::octets` meets its contract. The invariant of both loops: the first k octets are filled, the others are still zero.
 -- Assumes nothing.
-use Prim.Native.Nat.{◌+◌, ◌-◌, ◌≤◌}
+use Prim.Native.Nat.{◌-◌, ◌≤◌}
 use mathlib.Core.Path.{◌≡◌}
 use mathlib.Core.List.{◌++◌, map}
 use lib.ListN.{drop, replicate}

@@ -1,6 +1,5 @@
 -- `cells::index_in` meets its contract. The loop's invariant: what is left of the list decides, as the whole does.
 -- Assumes nothing.
-use Prim.Native.Nat.{◌-◌}
 use native.Mathlib.Omega.{arith}
 use Rattle.cells.proofs.CellLaws.{index-here, index-next, index-end}
 use borrow.Author.Rules.{rules}

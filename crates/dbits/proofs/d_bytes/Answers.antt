@@ -1,11 +1,10 @@
 -- `dbits::d_bytes` meets its contract: by the entries, and the bytes that they do not make one by one.
 -- Assumes nothing.
 use mathlib.Core.Path.{◌≡◌, refl, ◌∙◌}
-use Prim.Native.Nat.{◌+◌, ◌-◌, ◌/◌}
+use Prim.Native.Nat.{◌+◌, ◌/◌}
 use native.Mathlib.Omega.{arith}
 use lib.ListN.{length, get_or}
 use Rattle.bits.specs.Bit.{bit_at}
-use Rattle.channel.specs.Kinds.{d_count}
 use Rattle.channel.specs.Places.{d_places}
 use Rattle.channel.specs.Record.{d_bytes}
 use Rattle.dplaces.proofs.DPlaceLaws.{d_length_lem, d_count_le}

@@ -1,7 +1,7 @@
 -- `dbits::quick_bytes` meets its contract. The loop's invariant: the first j bytes are filled, the others are still zero.
 -- Assumes nothing.
 use mathlib.Core.Path.{◌≡◌, refl}
-use Prim.Native.Nat.{◌+◌, ◌*◌, ◌-◌}
+use Prim.Native.Nat.{◌+◌, ◌*◌}
 use native.Mathlib.Omega.{arith}
 use lib.ListN.{replicate, set}
 use Rattle.bits.proofs.CountLaws.{fill_step}

@@ -8,7 +8,7 @@ use Rattle.dput.specs.Back.{BackFrom, Rest}
 use Rattle.dput.proofs.by_plan.Given as goal
 
 abbrev pub invariant-loop-j : goal.invariant-loop-j
-invariant-loop-j l =    (l.initial.j ≤ l.j) × (l.j ≤ l.to) × (length l.o ≡ length l.initial.o) × ((k : ℕ) → get_or l.o k 0 < 256) × ((ps : List ℕ) → BackFrom ps l.plan l.base l.initial.j l.to → Rest ps l.d l.initial.j l.initial.o l.j l.o)
+invariant-loop-j l = (l.initial.j ≤ l.j) × (l.j ≤ l.to) × (length l.o ≡ length l.initial.o) × ((k : ℕ) → get_or l.o k 0 < 256) × ((ps : List ℕ) → BackFrom ps l.plan l.base l.initial.j l.to → Rest ps l.d l.initial.j l.initial.o l.j l.o)
 
 abbrev pub decreases-loop-j : goal.decreases-loop-j
 decreases-loop-j l = l.to - l.j

@@ -1,7 +1,6 @@
 -- `dput::with_bytes` meets its contract: each turn puts a byte, and leaves the bytes behind it.
 -- Assumes nothing.
 use mathlib.Core.Path.{◌≡◌, refl, ◌∙◌}
-use Prim.Native.Nat.{◌-◌}
 use native.Mathlib.Omega.{arith}
 use Rattle.dplaces.proofs.DPlaceLaws.{d_count_le}
 use Rattle.dput.proofs.with_bytes.Goals as goal

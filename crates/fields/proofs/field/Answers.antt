@@ -1,7 +1,6 @@
 -- `fields::field` meets its contract: the number of all the bits is that of those that are left, behind the field so far.
 -- Assumes nothing.
 use mathlib.Core.Path.{refl, sym, ◌∙◌}
-use Prim.Native.Nat.{◌-◌, ◌<◌}
 use native.Mathlib.Omega.{arith}
 use lib.Dec.{lit<}
 use lib.Pow.{pow_mono}

@@ -1,6 +1,5 @@
 -- `judge::begins` meets its contract.
 -- Assumes nothing.
-use Prim.Native.Nat.{◌-◌}
 use native.Mathlib.Omega.{arith}
 use borrow.Author.Count.{below_none, below_more}
 use Rattle.judge.proofs.begins.Goals as goal

@@ -8,7 +8,7 @@ use Rattle.put.proofs.LayLaws.{left}
 use Rattle.lay.proofs.body.Given as goal
 
 abbrev pub invariant-loop-j : goal.invariant-loop-j
-invariant-loop-j l =    (1 ≤ l.j) × (l.j ≤ l.n) × (length l.s ≡ length l.initial.s) × ((m : ℕ) → get_or l.s m 0 < 256) × (left (bit_at l.o) l.s l.p l.k (8 * l.j - l.r) ≡ left (bit_at l.o) l.initial.s l.p l.k (8 - l.r))
+invariant-loop-j l = (1 ≤ l.j) × (l.j ≤ l.n) × (length l.s ≡ length l.initial.s) × ((m : ℕ) → get_or l.s m 0 < 256) × (left (bit_at l.o) l.s l.p l.k (8 * l.j - l.r) ≡ left (bit_at l.o) l.initial.s l.p l.k (8 - l.r))
 
 abbrev pub decreases-loop-j : goal.decreases-loop-j
 decreases-loop-j l = l.n - l.j

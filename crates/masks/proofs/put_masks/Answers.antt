@@ -1,7 +1,7 @@
 -- `masks::put_masks` meets its contract: nine masks and their mark, and those of the other lists kept.
 -- Assumes nothing.
 use mathlib.Core.Path.{◌≡◌, refl}
-use Prim.Native.Nat.{◌*◌, ◌-◌}
+use Prim.Native.Nat.{◌*◌}
 use native.Mathlib.Omega.{arith}
 use Rattle.masks.proofs.KeptLaws.{Storing, storing_none, storing_next, more-made}
 use Rattle.masks.proofs.put_masks.Goals as goal

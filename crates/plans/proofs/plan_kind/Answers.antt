@@ -1,7 +1,7 @@
 -- `plans::plan_kind` meets its contract: an entry for each D byte, and which of them makes no claim.
 -- Assumes nothing.
 use mathlib.Core.Path.{◌≡◌}
-use Prim.Native.Nat.{◌+◌, ◌-◌, ◌/◌}
+use Prim.Native.Nat.{◌+◌, ◌/◌}
 use native.Mathlib.Omega.{arith}
 use lib.ListN.{length, length-set}
 use Rattle.channel.specs.Places.{d_places}

@@ -14,7 +14,7 @@ use Rattle.putting.proofs.FrameLaws.{Putting}
 use Rattle.putting.proofs.put_all.Given as goal
 
 abbrev pub invariant-loop-at : goal.invariant-loop-at
-invariant-loop-at l =    (length l.buffer ≡ length l.initial.buffer)
+invariant-loop-at l = (length l.buffer ≡ length l.initial.buffer)
     × ((t : Terms) (c : Cursor Context) (fs : List Frame) → Taken t (8 * length l.initial.buffer) c l.records fs [] → Putting t (8 * length l.initial.buffer) c l.records fs l.initial.buffer l.at l.buffer)
     × Plans l.table l.plan
 

@@ -1,7 +1,7 @@
 -- `timeslot::put_back` meets its contract. The invariant: the first j bytes are put.
 -- Assumes nothing.
 use mathlib.Core.Path.{◌≡◌, refl, ◌∙◌}
-use Prim.Native.Nat.{◌+◌, ◌*◌, ◌-◌, ◌/◌, ◌%◌}
+use Prim.Native.Nat.{◌+◌, ◌*◌, ◌/◌, ◌%◌}
 use native.Mathlib.Omega.{arith}
 use lib.ListN.{length}
 use Rattle.timeslot.proofs.ByteLaws.{share_whole, share_left, put_all}
