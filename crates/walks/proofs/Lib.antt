@@ -1,7 +1,3 @@
--- The laws of this crate, for the crates above it.
+-- What each call does step by step, for the crates above it.
 -- Assumes nothing.
 pub mod CallMir
-pub mod ListCalls
-pub mod OpenWalk
-pub mod CloseWalk
-pub mod PageWalk

@@ -1,2 +1,2 @@
-// The calls on sessions as both libraries export them: their MIR, and proofs that a function of that MIR meets its contract. No code.
+// The calls on sessions as both libraries export them: their MIR, with which each library's functions are compared. No code.
 #![tactic(auto)]

@@ -1,0 +1,9 @@
+-- `handheld::bellrope_session_page` meets its contract, as the check finds alone; and its steps are those that `walks` writes out.
+-- Assumes nothing.
+use Rattle.std.proofs.Common.{◌≡◌, refl}
+use Rattle.walks.proofs.CallMir.{pages}
+use Rattle.handheld.proofs.page_at.Symbol.{name as #page_at}
+use Rattle.handheld.proofs.bellrope_session_page.Code as code
+
+pub steps : code.function ≡ pages #page_at
+steps = refl

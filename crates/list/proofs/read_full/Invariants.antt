@@ -1,0 +1,10 @@
+-- `list::read_full` meets its contract. The loop's invariant: what was read is within the buffer.
+-- Assumes nothing.
+use Rattle.std.proofs.Common.{length, ◌-◌, ◌≤◌}
+use Rattle.list.proofs.read_full.Given as goal
+
+abbrev pub invariant-loop-got : goal.invariant-loop-got
+invariant-loop-got g l = l.got ≤ length l.input
+
+abbrev pub decreases-loop-got : goal.decreases-loop-got
+decreases-loop-got g l = length l.input - l.got
