@@ -8,12 +8,12 @@ use Rattle.allowed.proofs.AllowedLaws.{below_128}
 use Rattle.allowed.proofs.starts.Goals as goal
 
 pub returns-then-v-ne0 : goal.returns-then-v-ne0
-returns-then-v-ne0 c = rw (ne_eqb (c.args.v % 16) 0 c.if-v-ne0.true, and-false)
+returns-then-v-ne0 c = rw (ne_eqb (c.args.v % 16) 0 (λ e. omega arith), and-false)
 
 pub returns-in-6 : goal.returns-in-6
 returns-in-6 c =
     let a = c.args in
-    rw (← c.number.ensures, c.in-6.is, eq-eqb (a.v % 16) 0 c.if-v-ne0.false) (below_128 a.v)
+    rw (← c.number.ensures, c.in-6.is, eq-eqb (a.v % 16) 0 (omega arith)) (below_128 a.v)
 
 pub returns-in-8 : goal.returns-in-8
 returns-in-8 c = rw (← c.number.ensures, c.in-8.is)
@@ -22,4 +22,4 @@ pub returns-in_default : goal.returns-in_default
 returns-in_default c =
     let a = c.args in
     let n = c.number.result in
-    rw (← c.number.ensures, ne_eqb n 6 (λ e. omega arith), ne_eqb n 8 (λ e. omega arith), eq-eqb (a.v % 16) 0 c.if-v-ne0.false)
+    rw (← c.number.ensures, ne_eqb n 6 (λ e. omega arith), ne_eqb n 8 (λ e. omega arith), eq-eqb (a.v % 16) 0 (omega arith))

@@ -1,36 +1,37 @@
 -- `refusal::page` meets its contract: each number by the tests on the way.
 -- Assumes nothing.
+use native.Mathlib.Omega.{arith}
 use borrow.Author.Tests.{lt-ltb, le-ltb, eq-eqb, ne_eqb}
 use Prim.Native.Nat.{◌*◌}
 use Rattle.refusal.proofs.page.Goals as goal
 
 pub returns-then-direction-gt1 : goal.returns-then-direction-gt1
-returns-then-direction-gt1 c = rw (lt-ltb 1 c.args.r.terms.direction c.if-direction-gt1.true)
+returns-then-direction-gt1 c = rw (lt-ltb 1 c.args.r.terms.direction (omega arith))
 
 pub returns-then-r-eq0 : goal.returns-then-r-eq0
-returns-then-r-eq0 c = let r = c.args.r in rw (le-ltb 1 r.terms.direction c.if-direction-gt1.false, eq-eqb r.most 0 c.if-r-eq0.true)
+returns-then-r-eq0 c = let r = c.args.r in rw (le-ltb 1 r.terms.direction (omega arith), eq-eqb r.most 0 (omega arith))
 
 pub returns-then-bytes-gt65536 : goal.returns-then-bytes-gt65536
 returns-then-bytes-gt65536 c =
     let a = c.args in
-    rw (le-ltb 1 a.r.terms.direction c.if-direction-gt1.false, ne_eqb a.r.most 0 c.if-r-eq0.false, lt-ltb 65536 a.bytes c.if-bytes-gt65536.true)
+    rw (le-ltb 1 a.r.terms.direction (omega arith), ne_eqb a.r.most 0 (λ e. omega arith), lt-ltb 65536 a.bytes (omega arith))
 
 pub returns-then-bits-n : goal.returns-then-bits-n
 returns-then-bits-n c =
     let a = c.args in
-    rw (le-ltb 1 a.r.terms.direction c.if-direction-gt1.false, ne_eqb a.r.most 0 c.if-r-eq0.false, le-ltb 65536 a.bytes c.if-bytes-gt65536.false, lt-ltb (8 * a.bytes) a.r.n c.if-bits-n.true)
+    rw (le-ltb 1 a.r.terms.direction (omega arith), ne_eqb a.r.most 0 (λ e. omega arith), le-ltb 65536 a.bytes (omega arith), lt-ltb (8 * a.bytes) a.r.n (omega arith))
 
 pub returns-then-n-position : goal.returns-then-n-position
 returns-then-n-position c =
     let a = c.args in
-    rw (le-ltb 1 a.r.terms.direction c.if-direction-gt1.false, ne_eqb a.r.most 0 c.if-r-eq0.false, le-ltb 65536 a.bytes c.if-bytes-gt65536.false, le-ltb (8 * a.bytes) a.r.n c.if-bits-n.false, lt-ltb a.r.n a.r.cursor.position c.if-n-position.true)
+    rw (le-ltb 1 a.r.terms.direction (omega arith), ne_eqb a.r.most 0 (λ e. omega arith), le-ltb 65536 a.bytes (omega arith), le-ltb (8 * a.bytes) a.r.n (omega arith), lt-ltb a.r.n a.r.cursor.position (omega arith))
 
 pub returns-then-context-gt5 : goal.returns-then-context-gt5
 returns-then-context-gt5 c =
     let a = c.args in
-    rw (le-ltb 1 a.r.terms.direction c.if-direction-gt1.false, ne_eqb a.r.most 0 c.if-r-eq0.false, le-ltb 65536 a.bytes c.if-bytes-gt65536.false, le-ltb (8 * a.bytes) a.r.n c.if-bits-n.false, le-ltb a.r.n a.r.cursor.position c.if-n-position.false, lt-ltb 5 a.r.cursor.context c.if-context-gt5.true)
+    rw (le-ltb 1 a.r.terms.direction (omega arith), ne_eqb a.r.most 0 (λ e. omega arith), le-ltb 65536 a.bytes (omega arith), le-ltb (8 * a.bytes) a.r.n (omega arith), le-ltb a.r.n a.r.cursor.position (omega arith), lt-ltb 5 a.r.cursor.context (omega arith))
 
 pub returns : goal.returns
 returns c =
     let a = c.args in
-    rw (le-ltb 1 a.r.terms.direction c.if-direction-gt1.false, ne_eqb a.r.most 0 c.if-r-eq0.false, le-ltb 65536 a.bytes c.if-bytes-gt65536.false, le-ltb (8 * a.bytes) a.r.n c.if-bits-n.false, le-ltb a.r.n a.r.cursor.position c.if-n-position.false, le-ltb 5 a.r.cursor.context c.if-context-gt5.false)
+    rw (le-ltb 1 a.r.terms.direction (omega arith), ne_eqb a.r.most 0 (λ e. omega arith), le-ltb 65536 a.bytes (omega arith), le-ltb (8 * a.bytes) a.r.n (omega arith), le-ltb a.r.n a.r.cursor.position (omega arith), le-ltb 5 a.r.cursor.context (omega arith))

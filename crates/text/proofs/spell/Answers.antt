@@ -7,9 +7,7 @@ use Rattle.text.proofs.TextLaws.{spelled_none, spelled_some, spelled_next, spell
 use Rattle.text.proofs.spell.Goals as goal
 
 pub loop-rest-init : goal.loop-rest-init
-loop-rest-init c =
-    let b = c.before in
-    (spelled_none b.args.n b.args.digits.now (omega (arith, b.ranges.n)) b.requires, b.requires, omega arith)
+loop-rest-init c = (spelled_none c.args.n c.args.digits.now (omega (arith, c.ranges.n)) c.requires, c.requires, omega arith)
 
 pub overflow_sub-from : goal.overflow_sub-from
 overflow_sub-from c =

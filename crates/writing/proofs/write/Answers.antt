@@ -40,7 +40,7 @@ returns-then-judged-ne0 c =
     let r = c.write-number in
     let way = c.terms_of in
     let j = c.judge_all-judged in
-    refused_record a.records.now a.r a.buffer.now r.result r.ensures c.if-number-ne0.false way.result way.ensures j.result.number j.result.items (cursor_of j.result.cursor) j.ensures.0 c.refuse-then-judged-ne0.result a.buffer.now c.if-judged-ne0.true c.refuse-then-judged-ne0.ensures refl
+    refused_record a.records.now a.r a.buffer.now r.result r.ensures c.if-number-ne0.false way.result way.ensures j.result.number j.result.items (cursor_of j.result.cursor) j.ensures.0 c.refuse-then-judged-ne0.result a.buffer.now (λ e. omega arith) c.refuse-then-judged-ne0.ensures refl
 
 pub put_all-requires : goal.put_all-requires
 put_all-requires c =
@@ -49,7 +49,7 @@ put_all-requires c =
     let way = c.terms_of in
     let j = c.judge_all-judged in
     let w = admits a.records.now a.r a.buffer.now r.result r.ensures c.if-number-ne0.false in
-    (j.ensures.1, all-taken way.result (8 * length a.buffer.now) (cursor_by a.r.cursor) a.records.now j.result.number j.result.items (cursor_of j.result.cursor) j.ensures.0 c.if-judged-ne0.false, w.few, w.short)
+    (j.ensures.1, all-taken way.result (8 * length a.buffer.now) (cursor_by a.r.cursor) a.records.now j.result.number j.result.items (cursor_of j.result.cursor) j.ensures.0 (omega arith), w.few, w.short)
 
 pub returns : goal.returns
 returns c =
@@ -57,4 +57,4 @@ returns c =
     let r = c.write-number in
     let way = c.terms_of in
     let j = c.judge_all-judged in
-    written_call a.records.now a.r a.buffer.now r.result r.ensures c.if-number-ne0.false way.result way.ensures j.result.number j.result.items (cursor_of j.result.cursor) j.ensures.0 _ c.put_all.new.buffer c.if-judged-ne0.false c.put_all.ensures refl
+    written_call a.records.now a.r a.buffer.now r.result r.ensures c.if-number-ne0.false way.result way.ensures j.result.number j.result.items (cursor_of j.result.cursor) j.ensures.0 _ c.put_all.new.buffer (omega arith) c.put_all.ensures refl
