@@ -10,13 +10,11 @@ use channel::Kind;
 fn starts(k: Kind, v: u8) -> bool
     ensures { result ≡ starts_by k v }
 {
-    if v % 16 != 0 {
-        return false;
-    }
-    match kinds::number(k) {
-        6 => v < 128,
-        8 => false,
-        _ => true,
+    let right = v % 16 == 0;
+    match k {
+        Kind::Lower => right && v < 128,
+        Kind::Amr740 => false,
+        _ => right,
     }
 }
 
@@ -24,10 +22,10 @@ fn starts(k: Kind, v: u8) -> bool
 fn follows_in(k: Kind, x: u8) -> bool
     ensures { result ≡ follows x k }
 {
-    if kinds::number(k) == 8 {
-        return 2 <= x;
+    match k {
+        Kind::Amr740 => 2 <= x,
+        _ => x != 0,
     }
-    x != 0
 }
 
 // Rule 2: whether a kind with its verdict may be an item in a context: in context 0 one that starts a run, in any other one that follows.

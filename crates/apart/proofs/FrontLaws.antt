@@ -11,7 +11,8 @@ use Rattle.reading.specs.Reading.{frame}
 use Rattle.bits.specs.Bit.{bit_at}
 use Rattle.channel.specs.declared.Terms.{Terms}
 use Rattle.channel.specs.declared.Kind.{Kind}
-use Rattle.channel.specs.declared.Found.TheVariants.{Is}
+use Rattle.std.specs.Prelude.{Some, None}
+use Rattle.std.proofs.lemmas.Option.{none-some, same_Some}
 use Rattle.channel.specs.Kinds.{kind_no, body_of}
 use Rattle.channel.specs.Coding.{word_at}
 use Rattle.channel.specs.Control.{control, extended}
@@ -20,21 +21,20 @@ use Rattle.channel.specs.Record.{d_bytes, number_at, d_length, record_of}
 use Rattle.channel.specs.Sound.{SoundAs, Unsound}
 use Rattle.record.proofs.KindLaws.{of-each}
 use Rattle.numbers.proofs.SizeLaws.{four_bytes, record_length}
-use Rattle.parse.specs.declared.RecordKind.TheVariants as of
-use Rattle.parse.specs.declared.Record.{Record}
-use Rattle.parse.specs.Parsed.{kind_by, record_as, record_from, RecordBy, frame_by}
-use Rattle.parse.proofs.ParseLaws.{of_one, of-not}
+use Rattle.item.specs.declared.Frame as code
+use Rattle.item.specs.Item.{frame_of}
+use Rattle.parse.specs.Parsed.{kind_by, record_as, record_from, RecordBy}
 use Rattle.apart.proofs.BuiltLaws.{body-framed, built}
 use Rattle.apart.proofs.OneLaws.{words_one, d-long}
 
 -- each kind is found by its number
-kind_by_lem : (k : Kind) → kind_by (kind_no k) ≡ Is k
-kind_by_lem = of-each (λ k. kind_by (kind_no k) ≡ Is k) refl refl refl refl refl refl refl refl
+kind_by_lem : (k : Kind) → kind_by (kind_no k) ≡ Some k
+kind_by_lem = of-each (λ k. kind_by (kind_no k) ≡ Some k) refl refl refl refl refl refl refl refl
 
 -- bytes that begin with the sound record of a frame
 module _ (terms : Terms) (part : List ℕ) (f : Frame) (rest : List ℕ) (s : SoundAs terms part f rest) where
   -- the first byte tells the kind
-  pub front-kind : kind_by (get_or part 0 0) ≡ Is f.kind
+  pub front-kind : kind_by (get_or part 0 0) ≡ Some f.kind
   unfolding record_of
   front-kind = ap (λ (b : List ℕ). kind_by (get_or b 0 0)) s.front ∙ kind_by_lem f.kind
 
@@ -75,22 +75,21 @@ module _ (terms : Terms) (part : List ℕ) (f : Frame) (rest : List ℕ) (s : So
       (built f.body f.kind (get_or part 9 0) (get_or part 10 0) (drop 12 part) (body-framed terms.direction f.body f.kind s.fit.holds) front-control front-extended front-d)
       ∙ sym s.fit.cut
 
-  -- so the record by its bytes is of that frame
-  front-frame : frame_by (record_as f.kind part) f.kind ≡ f
+  -- so the frame by the record's bytes is that frame
+  front-frame : frame_of (record_as f.kind part) ≡ f
   front-frame = λ i. record { kind = f.kind; start = front-start i; body = front-body i; tail = front-tail i; verdict = front-verdict i }
 
-  front_record : record_from part ≡ record_as f.kind part
+  front_record : record_from part ≡ Some (record_as f.kind part)
   front_record = rw (front-kind, le-ltb (length part) (12 + d_length f.kind) front_long)
 
 -- the record in front of some bytes, by what they say
-module _ (part : List ℕ) (r : Record) (h : RecordBy part r) where
-  -- unsound: no frame has such a record
-  pub record_none : r.kind ≡ of.Unsound → (terms : Terms) → Unsound terms part
-  record_none e terms f rest s = of-not f.kind (sym e ∙ ap (λ (q : Record). q.kind) (h.is ∙ front_record terms part f rest s))
+module _ (part : List ℕ) where
+  -- of no frame: no frame has such a record
+  pub record_none : RecordBy part None → (terms : Terms) → Unsound terms part
+  record_none h terms f rest s = none-some (record_as f.kind part) (h.is ∙ front_record terms part f rest s)
 
-  -- of a frame of a kind: where the bytes begin with the sound record of a frame, it is that frame
-  pub record_is : (k : Kind) → r.kind ≡ of.Frame k → (terms : Terms) (f : Frame) (rest : List ℕ) → SoundAs terms part f rest → frame_by r k ≡ f
-  record_is k e terms f rest s =
-      let q : r ≡ record_as f.kind part = h.is ∙ front_record terms part f rest s in
-      let same : k ≡ f.kind = of_one k f.kind (sym e ∙ ap (λ (q : Record). q.kind) q) in
-      rw (q, same) (front-frame terms part f rest s)
+  -- of a frame: where the bytes begin with the sound record of a frame, it is that frame
+  pub record_is : (g : code.Frame) → RecordBy part (Some g) → (terms : Terms) (f : Frame) (rest : List ℕ) → SoundAs terms part f rest → frame_of g ≡ f
+  record_is g h terms f rest s =
+      let same : g ≡ record_as f.kind part = same_Some g (record_as f.kind part) (h.is ∙ front_record terms part f rest s) in
+      rw same (front-frame terms part f rest s)

@@ -6,11 +6,10 @@ ghost use Rattle.paging.specs.Paging.{PageCall};
 ghost use Rattle.writing.specs.Writing.{WriteCall};
 ghost use Rattle.timeslot.specs.Timeslot.{TakeCall, PutCall};
 ghost use Rattle.serving.specs.Serving.{OpenCall, brought, SessionPageCall, CloseCall};
-ghost use Rattle.serving.specs.Decided.{PagedAt};
 ghost use Rattle.call.specs.Call.{page_request, write_request};
 
 use call::Answer;
-use serving::{Brought, Opened, Paged};
+use serving::{Brought, Opened};
 use sessions::Session;
 
 // A page of records from a cursor: the longest leading part of the reading that keeps to the count and fits the buffer; items, bytes, and the cursor
@@ -28,9 +27,9 @@ pub extern "C" fn bellrope_page(
 ) -> Answer
     ensures { PageCall capture.now (page_request n direction profile position context most) buffer.old result buffer.new }
 {
-    let table = dplaces::table();
+    let table = Some(dplaces::table());
     let request = call::page_request(n, direction, profile, position, context, most);
-    paging::page(capture, request, &table, buffer)
+    paging::page(capture, request, table, buffer)
 }
 
 // Records back to bits, from the cursor's position on: body and tail bits are put, other bits keep their value; items and the cursor after.
@@ -45,9 +44,9 @@ pub extern "C" fn bellrope_write(
 ) -> Answer
     ensures { WriteCall records.now (write_request direction profile position context) buffer.old result buffer.new }
 {
-    let table = dplaces::table();
+    let table = Some(dplaces::table());
     let request = call::write_request(direction, profile, position, context);
-    writing::write(records, request, &table, buffer)
+    writing::write(records, request, table, buffer)
 }
 
 // A channel of a timeslot taken out into the front of a buffer, whose rest is kept: the number alone.
@@ -76,32 +75,22 @@ pub extern "C" fn bellrope_open(
 ) -> Opened
     ensures { OpenCall sessions.old key capture direction result sessions.new }
 {
-    let found = sessions::find(sessions, key);
-    let opening = serving::open_in(found, sessions.len(), key, capture, direction);
-    sessions::store(sessions, opening.place, opening.session);
-    opening.opened
+    serving::open(sessions, key, capture, direction)
 }
 
-// A page of a session, by what stands at its place.
-fn page_at(
-    session: Session,
-    places: usize,
+// A page of the session at a place, with the table lent.
+fn session_page(
+    sessions: &mut [Session],
+    place: usize,
     key: u64,
     capture: &[u8],
-    n: u64,
-    profile: u8,
-    most: u64,
+    asked: Brought,
     buffer: &mut [u8],
-) -> Paged
-    ensures { PagedAt session places key capture.now (brought n profile most) buffer.old result buffer.new }
+) -> Answer
+    ensures { SessionPageCall sessions.old place key capture.now asked buffer.old result buffer.new sessions.new }
 {
-    let table = dplaces::table();
-    let brought = Brought {
-        n: n,
-        profile: profile,
-        most: most,
-    };
-    serving::page_at(session, places, key, capture, brought, &table, buffer)
+    let table = Some(dplaces::table());
+    serving::page(sessions, place, key, capture, asked, table, buffer)
 }
 
 // A page of the session at a place: as `bellrope_page` with the session's direction and cursor; the session keeps the cursor that is answered.
@@ -118,19 +107,8 @@ pub extern "C" fn bellrope_session_page(
 ) -> Answer
     ensures { SessionPageCall sessions.old place key capture.now (brought n profile most) buffer.old result buffer.new sessions.new }
 {
-    let session = sessions::at(sessions, place);
-    let paged = page_at(
-        session,
-        sessions.len(),
-        key,
-        capture,
-        n,
-        profile,
-        most,
-        buffer,
-    );
-    sessions::store(sessions, place, paged.session);
-    paged.answer
+    let asked = Brought { n, profile, most };
+    session_page(sessions, place, key, capture, asked, buffer)
 }
 
 // The session at a place closed: the place is free.
@@ -138,8 +116,5 @@ pub extern "C" fn bellrope_session_page(
 pub extern "C" fn bellrope_close(sessions: &mut [Session], place: usize, key: u64) -> u64
     ensures { CloseCall sessions.old place key result sessions.new }
 {
-    let session = sessions::at(sessions, place);
-    let closing = serving::close_at(session, sessions.len(), key);
-    sessions::store(sessions, place, closing.session);
-    closing.number
+    serving::close(sessions, place, key)
 }

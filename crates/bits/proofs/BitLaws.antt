@@ -171,10 +171,6 @@ low_bit n d j =
 abbrev pub shifted : List ℕ → ℕ → ℕ
 shifted s q = (get_or s (q / 8) 0 * 256 + get_or s (q / 8 + 1) 0) / 2 ^ (8 - q % 8) % 256
 
--- they are shifted by whoever has the second of them by another way
-pub shifted_by : (s : List ℕ) (q b x : ℕ) → x ≡ (get_or s (q / 8) 0 * 256 + b) / 2 ^ (8 - q % 8) % 256 → b ≡ get_or s (q / 8 + 1) 0 → x ≡ shifted s q
-shifted_by s q b x e f = e ∙ ap (λ (y : ℕ). (get_or s (q / 8) 0 * 256 + y) / 2 ^ (8 - q % 8) % 256) f
-
 -- bit j of the shifted bytes is bit q + j of all
 shifted-bit : (s : List ℕ) (q j : ℕ) → j < 8 → get_or s (q / 8 + 1) 0 < 256 → shifted s q / 2 ^ (7 - j) % 2 ≡ get_or s ((q + j) / 8) 0 / 2 ^ (7 - (q + j) % 8) % 2
 shifted-bit s q j hj hb =

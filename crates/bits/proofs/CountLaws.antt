@@ -33,12 +33,15 @@ map-count-split {A} f (suc c) d x =
     rw (e, b) (ap (λ (xs : List A). f x ∷ xs) (map-count-split f c d (suc x)))
 
 -- at k below the length stands f (a + k)
-pub get_d_map_count : (f : ℕ → ℕ) (n a k : ℕ) → k < n → get_or (map f (count n a)) k 0 ≡ f (a + k)
-get_d_map_count f zero a k h = absurd (not-suc-le-zero h)
-get_d_map_count f (suc n) a zero h = ap f (sym (add-zero a))
-get_d_map_count f (suc n) a (suc k) h =
+pub get_or-map-count : {A : Type 0} (f : ℕ → A) (n a k : ℕ) (d : A) → k < n → get_or (map f (count n a)) k d ≡ f (a + k)
+get_or-map-count f zero a k d h = absurd (not-suc-le-zero h)
+get_or-map-count f (suc n) a zero d h = ap f (sym (add-zero a))
+get_or-map-count f (suc n) a (suc k) d h =
     let e : suc a + k ≡ a + suc k = omega arith in
-    get_d_map_count f n (suc a) k (le_of_suc-le-suc h) ∙ ap f e
+    get_or-map-count f n (suc a) k d (le_of_suc-le-suc h) ∙ ap f e
+
+pub get_d_map_count : (f : ℕ → ℕ) (n a k : ℕ) → k < n → get_or (map f (count n a)) k 0 ≡ f (a + k)
+get_d_map_count f n a k h = get_or-map-count f n a k 0 h
 
 -- two such lists are the same where their elements are
 pub map-count-same : {A : Type 0} (f h : ℕ → A) (n a b : ℕ) → ((k : ℕ) → k < n → f (a + k) ≡ h (b + k)) → map f (count n a) ≡ map h (count n b)

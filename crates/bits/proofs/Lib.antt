@@ -2,3 +2,4 @@
 -- Assumes nothing.
 pub mod CountLaws
 pub mod BitLaws
+pub mod ArrayLaws

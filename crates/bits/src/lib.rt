@@ -1,8 +1,10 @@
 // Bits of lent bytes, and a frame's twenty octets by value.
 #![tactic(auto)]
 
-ghost use Rattle.std.specs.Prelude.{◌≡◌, ◌+◌, ◌*◌, ◌-◌, ◌/◌, ◌%◌, ◌^◌, ◌<◌, ◌≤◌, length, get_or};
+ghost use Rattle.std.specs.Prelude.{◌≡◌, ◌+◌, ◌*◌, ◌-◌, ◌/◌, ◌%◌, ◌^◌, ◌<◌, ◌≤◌, length};
 ghost use Rattle.bits.specs.Bit.{bit_at, octet_of, twenty, bits_from};
+
+use std::array;
 
 // Bit p of s, the top bit of the first byte being bit 0.
 pub fn bit(s: &[u8], p: usize) -> bool
@@ -12,19 +14,12 @@ pub fn bit(s: &[u8], p: usize) -> bool
     (s[p / 8] >> (7 - p % 8)) % 2 == 1
 }
 
-// Byte i of s, or 0 past its end, where an octet's last bits would lie.
-fn byte_or_zero(s: &[u8], i: usize) -> u8
-    ensures { result ≡ get_or s.now i 0 }
+// Eight of the sixteen bits of a and b, those before the last r: two bytes are shifted at once, so that no bit is taken alone.
+pub fn join(a: u8, b: u8, r: usize) -> u8
+    requires { r ≤ 8 }
+    ensures { result ≡ (a * 256 + b) / 2 ^ r % 256 }
 {
-    if i < s.len() { s[i] } else { 0 }
-}
-
-// Eight of the sixteen bits of a and b, from bit r on: two bytes are shifted at once, so that no bit is taken alone.
-fn join(a: u8, b: u8, r: usize) -> u8
-    requires { r < 8 }
-    ensures { result ≡ (a * 256 + b) / 2 ^ (8 - r) % 256 }
-{
-    (((a as u32 * 256 + b as u32) >> (8 - r)) % 256) as u8
+    ((u16::from_be_bytes([a, b]) >> r) % 256) as u8
 }
 
 // The top k bits of x, with zeros for the others.
@@ -36,7 +31,8 @@ fn top(x: u8, k: usize) -> u8
     (x >> d) << d
 }
 
-// The octet from bit q, with zeros for the bits from n on, which are cut off only where n falls inside it.
+// The octet from bit q, with zeros for the bits from n on, which are cut off only where n falls inside it. Past the end of s, where its last bits would lie,
+// a zero byte stands for the next.
 fn octet(s: &[u8], n: usize, q: usize) -> u8
     requires { (n ≤ 8 * length s.now) × (length s.now ≤ 65536) × (q < n + 160) }
     ensures { result ≡ octet_of (bits_from (bit_at s.now) n q) 0 }
@@ -45,7 +41,8 @@ fn octet(s: &[u8], n: usize, q: usize) -> u8
         return 0;
     }
     let i = q / 8;
-    let x = join(s[i], byte_or_zero(s, i + 1), q % 8);
+    let next = s.get(i + 1).copied().unwrap_or(0);
+    let x = join(s[i], next, 8 - q % 8);
     if q + 8 <= n {
         return x;
     }
@@ -53,22 +50,15 @@ fn octet(s: &[u8], n: usize, q: usize) -> u8
 }
 
 // The twenty octets from bit p, with zeros for the bits from n on, which are never looked at. Where 168 bits are left all the bytes are there, and whole:
-// nothing is tested.
+// nothing is tested. (What n is to s stands in these two contracts alone: all above have it from `capture::Capture`.)
 pub fn octets(s: &[u8], n: usize, p: usize) -> [u8; 20]
     requires { (p ≤ n) × (n ≤ 8 * length s.now) × (length s.now ≤ 65536) }
     ensures { result ≡ twenty (bits_from (bit_at s.now) n p) }
 {
-    let mut a = [0u8; 20];
     if p + 168 <= n {
         let i = p / 8;
-        let r = p % 8;
-        for k in 0..20 {
-            a[k] = join(s[i + k], s[i + k + 1], r);
-        }
-        return a;
+        let r = 8 - p % 8;
+        return array::from_fn(|k| join(s[i + k], s[i + k + 1], r));
     }
-    for k in 0..20 {
-        a[k] = octet(s, n, p + 8 * k);
-    }
-    a
+    array::from_fn(|k| octet(s, n, p + 8 * k))
 }

@@ -1,6 +1,6 @@
 -- What a call brings as numbers, and what it answers (document 01, "Records and calls").
 -- Assumes nothing.
-use Rattle.std.specs.Prelude.{cond, ℕ, eqb}
+use Rattle.std.specs.Prelude.{cond, ℕ, eqb, Result, Ok, Err}
 use Rattle.reading.specs.Reading.{Cursor}
 use Rattle.channel.specs.declared.Direction.{Direction}
 use Rattle.channel.specs.declared.Direction.TheVariants.{Uplink, Downlink}
@@ -11,6 +11,8 @@ use Rattle.call.specs.declared.CursorNumbers.{CursorNumbers}
 use Rattle.call.specs.declared.PageRequest.{PageRequest}
 use Rattle.call.specs.declared.WriteRequest.{WriteRequest}
 use Rattle.call.specs.declared.Answer.{Answer}
+use Rattle.call.specs.declared.Refusal.{Refusal}
+use Rattle.call.specs.declared.Refusal.TheVariants.{NotARequest, TooLong, WrongCursor, NoRoom, Unsound, NotDue, NoChannel, Full, KeyPresent, NoSession}
 
 -- what is asked of a page, by the numbers of the call: n, direction, profile, position, context, most
 abbrev pub page_request : ℕ → ℕ → ℕ → ℕ → ℕ → ℕ → PageRequest
@@ -35,6 +37,24 @@ cursor_by c = record { position = c.position; context = c.context }
 -- the numbers of the cursor that is answered
 abbrev pub next : Answer → CursorNumbers
 next a = record { position = a.position; context = a.context }
+
+-- the number of a refusal (document 01's table, and document 02)
+abbrev pub number_of : Refusal → ℕ
+number_of NotARequest = 1
+number_of TooLong = 2
+number_of WrongCursor = 3
+number_of NoRoom = 4
+number_of Unsound = 5
+number_of NotDue = 6
+number_of NoChannel = 7
+number_of Full = 8
+number_of KeyPresent = 9
+number_of NoSession = 10
+
+-- the number of what may be refused: 0 where it is not
+abbrev pub number_in : {A : Type 0} → Result A Refusal → ℕ
+number_in (Ok _) = 0
+number_in (Err why) = number_of why
 
 -- a call that is not refused: number 0 and index 0, items and bytes, and the cursor moved on
 abbrev pub answered_by : ℕ → ℕ → Cursor Context → Answer

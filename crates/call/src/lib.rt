@@ -2,7 +2,7 @@
 #![tactic(auto)]
 
 ghost use Rattle.std.specs.Prelude.{◌≡◌};
-ghost use Rattle.call.specs.Call.{page_request, write_request, terms_by, next, refused_at};
+ghost use Rattle.call.specs.Call.{page_request, write_request, terms_by, next, cursor_by, number_of, answered_by, refused_at};
 
 use channel::{Direction, Terms};
 
@@ -36,7 +36,7 @@ pub struct WriteRequest {
     pub cursor: CursorNumbers,
 }
 
-// What is asked of a page, by the numbers of the call.
+// What is asked of a page, by the numbers of the call, one by one as C gives them.
 pub fn page_request(
     n: u64,
     direction: u64,
@@ -48,32 +48,20 @@ pub fn page_request(
     ensures { result ≡ page_request n direction profile position context most }
 {
     PageRequest {
-        n: n,
-        terms: TermNumbers {
-            direction: direction,
-            profile: profile,
-        },
-        cursor: CursorNumbers {
-            position: position,
-            context: context,
-        },
-        most: most,
+        n,
+        terms: TermNumbers { direction, profile },
+        cursor: CursorNumbers { position, context },
+        most,
     }
 }
 
-// What is asked of writing, by the numbers of the call.
+// What is asked of writing, likewise.
 pub fn write_request(direction: u64, profile: u8, position: u64, context: u64) -> WriteRequest
     ensures { result ≡ write_request direction profile position context }
 {
     WriteRequest {
-        terms: TermNumbers {
-            direction: direction,
-            profile: profile,
-        },
-        cursor: CursorNumbers {
-            position: position,
-            context: context,
-        },
+        terms: TermNumbers { direction, profile },
+        cursor: CursorNumbers { position, context },
     }
 }
 
@@ -90,7 +78,7 @@ pub struct Answer {
 }
 
 impl Answer {
-    // The cursor that is answered, to ask the next page with.
+    // The cursor that is answered, to ask the next page with. (No `From`: an answer has more to it than its cursor.)
     pub fn next(self) -> CursorNumbers
         ensures { result ≡ next self }
     {
@@ -101,20 +89,58 @@ impl Answer {
     }
 }
 
-// What is agreed of a capture, by its numbers.
+// What is agreed of a capture, by its numbers. (No `TryFrom`: a number above 1 is refused before, as `NotARequest`, and nothing is left to fail.)
 pub fn terms_of(t: TermNumbers) -> Terms
     ensures { result ≡ terms_by t }
 {
-    if t.direction == 0 {
-        Terms {
-            direction: Direction::Uplink,
-            profile: t.profile,
-        }
-    } else {
-        Terms {
-            direction: Direction::Downlink,
-            profile: t.profile,
-        }
+    let direction = match t.direction {
+        0 => Direction::Uplink,
+        _ => Direction::Downlink,
+    };
+    Terms {
+        direction,
+        profile: t.profile,
+    }
+}
+
+// Why a call is refused, by the numbers that C is answered.
+#[derive(Clone, Copy, PartialEq, Eq)]
+pub enum Refusal {
+    // What is asked is no request: a direction above 1, a page of 0 items, or too many bytes of records.
+    NotARequest = 1,
+    // Too many bytes, octets or places, or more bits than the bytes have.
+    TooLong = 2,
+    // A cursor beyond the end, or of no context.
+    WrongCursor = 3,
+    // The first item does not fit, a frame would end past the buffer, or a channel's bytes are too few.
+    NoRoom = 4,
+    // A record that is no frame's.
+    Unsound = 5,
+    // A sound record that does not stand where, or as, it is due.
+    NotDue = 6,
+    // A channel number outside 1 to 8.
+    NoChannel = 7,
+    // No place of the list is free.
+    Full = 8,
+    // The key is present already.
+    KeyPresent = 9,
+    // No session of that key stands at the place.
+    NoSession = 10,
+}
+
+impl Refusal {
+    // The number that C is answered.
+    pub fn number(self) -> u64
+        ensures { result ≡ number_of self }
+    {
+        self as u64
+    }
+
+    // The answer of this refusal, by `refuse`.
+    pub fn answer(self, index: u64, cursor: CursorNumbers) -> Answer
+        ensures { result ≡ refused_at (number_of self) index cursor }
+    {
+        refuse(self.number(), index, cursor)
     }
 }
 
@@ -123,10 +149,24 @@ pub fn refuse(number: u64, index: u64, cursor: CursorNumbers) -> Answer
     ensures { result ≡ refused_at number index cursor }
 {
     Answer {
-        number: number,
-        index: index,
+        number,
+        index,
         items: 0,
         bytes: 0,
+        position: cursor.position,
+        context: cursor.context,
+    }
+}
+
+// The answer of a call that is not refused: items and bytes, and the cursor moved on.
+pub fn answered(items: u64, bytes: u64, cursor: CursorNumbers) -> Answer
+    ensures { result ≡ answered_by items bytes (cursor_by cursor) }
+{
+    Answer {
+        number: 0,
+        index: 0,
+        items,
+        bytes,
         position: cursor.position,
         context: cursor.context,
     }

@@ -31,8 +31,7 @@ use Rattle.channel.specs.Frames.{Frame}
 use Rattle.channel.proofs.BoolLaws.{ands, and_r, and_both, all-at, never, all-below, elem-count}
 use Rattle.channel.proofs.FrameLaws.{uncut}
 use Rattle.channel.proofs.CutLaws.{control-cut, extended-cut}
-use Rattle.channel.specs.declared.Found.{Found}
-use Rattle.channel.specs.declared.Found.TheVariants.{Is, Nothing}
+use Rattle.std.specs.Prelude.{Option, Some, None}
 use Rattle.channel.specs.Record.{d_bytes, wide, number_at, d_length, record_of}
 use Rattle.dplaces.proofs.DPlaceLaws.{d_length_lem}
 use Rattle.dbits.proofs.DBitLaws.{from_top-bit, bytes-bit}
@@ -41,7 +40,8 @@ use Rattle.record.proofs.RecordLaws.{bytes_cut}
 use Rattle.octets.specs.Built.{extended_places}
 use Rattle.channel.specs.Sound.{SoundAs, Unsound}
 use Rattle.parse.specs.Parsed.{kind_by}
-use Rattle.parse.proofs.ParseLaws.{kind-none, is-not}
+use Rattle.std.proofs.lemmas.Option.{none-some}
+use Rattle.parse.proofs.ParseLaws.{kind-none}
 use Rattle.apart.proofs.BuiltLaws.{body-framed, ones-last, extended-top}
 use Rattle.apart.proofs.OneLaws.{cut-cut, d-long}
 use Rattle.apart.proofs.FrontLaws.{front-kind, front_long, front-tail, front-control, front-extended, front-d}
@@ -88,16 +88,16 @@ all-count t zero a h = refl
 all-count t (suc n) a h = and_both (t a) (all t (count n (suc a))) (h a (omega arith) (omega arith)) (all-count t n (suc a) (λ i l m. h i (omega arith) (omega arith)))
 
 -- the number of the kind that is found
-abbrev found_no : Found → ℕ
-found_no (Is k) = kind_no k
-found_no Nothing = 0
+abbrev found_no : Option Kind → ℕ
+found_no (Some k) = kind_no k
+found_no None = 0
 
-kind-number : (n : ℕ) (k : Kind) → kind_by n ≡ Is k → n ≡ kind_no k
+kind-number : (n : ℕ) (k : Kind) → kind_by n ≡ Some k → n ≡ kind_no k
 kind-number n k e =
     by_cases (dec_lt n 9)
     (λ (l : n < 9). sym (eqb-true (found_no (kind_by n)) n (all-below 9 (λ m. eqb (found_no (kind_by m)) m) refl n l)) ∙ ap found_no e)
     (λ (m : ¬ (n < 9)).
-    absurd (is-not k (sym (kind-none n (λ z. omega arith) (λ z. omega arith) (λ z. omega arith) (λ z. omega arith) (λ z. omega arith) (λ z. omega arith) (λ z. omega arith) (λ z. omega arith)) ∙ e)))
+    absurd (none-some k (sym (kind-none n (λ z. omega arith) (λ z. omega arith) (λ z. omega arith) (λ z. omega arith) (λ z. omega arith) (λ z. omega arith) (λ z. omega arith) (λ z. omega arith)) ∙ e)))
 
 -- n bytes from a on, one by one
 drop-bytes : (bytes : List ℕ) (n a : ℕ) → a + n ≤ length bytes → drop a bytes ≡ map (λ i. get_or bytes i 0) (count n a) ++ drop (a + n) bytes
@@ -227,7 +227,7 @@ module _ (bytes : List ℕ) where
     body_by_lem Amr740 = (refl, refl, refl, λ c x. c)
 
     -- a record of a kind without a case is that of the frame with this body
-    module _ (small : Below 256 bytes) (k : Kind) (e : kind_by (get_or bytes 0 0) ≡ Is k) (h : case_of d bytes (Is k) ≡ false) where
+    module _ (small : Below 256 bytes) (k : Kind) (e : kind_by (get_or bytes 0 0) ≡ Some k) (h : case_of d bytes (Some k) ≡ false) where
       abbrev frame_by : Frame
       frame_by = record { kind = k; start = number_at bytes 1; body = word_at (body_by k) 0 (body_of k); tail = number_at bytes 5; verdict = get_or bytes 11 0 }
 
@@ -322,6 +322,6 @@ pub exactly : (t : Terms) (bytes : List ℕ) → Below 256 bytes
     → (faulty t.direction bytes ≡ false → (f : Frame) × (rest : List ℕ) × SoundAs t bytes f rest) × (faulty t.direction bytes ≡ true → Unsound t bytes)
 exactly t bytes small = (by (kind_by (get_or bytes 0 0)) refl, λ h f rest s. never (sym h ∙ no_case bytes t f rest s))
   where
-    by : (found : Found) → kind_by (get_or bytes 0 0) ≡ found → case_of t.direction bytes found ≡ false → (f : Frame) × (rest : List ℕ) × SoundAs t bytes f rest
-    by (Is k) e h = (frame_by bytes t small k e h, drop (d_length k) (drop 12 bytes), sound_by bytes t small k e h)
-    by Nothing e h = absurd (never h)
+    by : (found : Option Kind) → kind_by (get_or bytes 0 0) ≡ found → case_of t.direction bytes found ≡ false → (f : Frame) × (rest : List ℕ) × SoundAs t bytes f rest
+    by (Some k) e h = (frame_by bytes t small k e h, drop (d_length k) (drop 12 bytes), sound_by bytes t small k e h)
+    by None e h = absurd (never h)

@@ -2,7 +2,7 @@
 -- A record ("Records and calls"): kind in byte 0, start in bytes 1 to 4, tail in 5 to 8, control in 9, extended in 10, verdict in 11, D bits from byte
 -- 12 on. Bit 0 is the top bit of byte 0, so control is bits 72 to 79, extended is bits 80 to 87, and D1 is bit 96.
 -- Assumes nothing.
-use Rattle.std.specs.Prelude.{Bool, true, not, ◌&&◌, ◌||◌, List, [], ◌∷◌, ℕ, ◌+◌, ◌*◌, ◌-◌, eqb, ltb, length, get_or}
+use Rattle.std.specs.Prelude.{Bool, true, not, ◌&&◌, ◌||◌, List, [], ◌∷◌, ℕ, ◌+◌, ◌*◌, ◌-◌, eqb, ltb, length, get_or, Option, Some, None}
 use Rattle.bits.specs.Bit.{bit_at, number, count}
 use Rattle.channel.specs.declared.Direction.{Direction}
 use Rattle.channel.specs.declared.Kind.{Kind}
@@ -11,8 +11,6 @@ use Rattle.channel.specs.Kinds.{d_count, least_tail}
 use Rattle.channel.specs.Places.{upto, elem}
 use Rattle.channel.specs.Coding.{bits_at, all, c4_coded, speech_xc}
 use Rattle.channel.specs.Control.{control_places}
-use Rattle.channel.specs.declared.Found.{Found}
-use Rattle.channel.specs.declared.Found.TheVariants.{Is, Nothing}
 use Rattle.channel.specs.Record.{number_at, d_length}
 use Rattle.octets.specs.Built.{extended_places}
 use Rattle.parse.specs.Parsed.{kind_by}
@@ -69,9 +67,9 @@ abbrev pub tail_below : Direction → List ℕ → Kind → Bool
 tail_below d bytes k = ltb (number_at bytes 5) (least_tail d k)
 
 -- one of the cases, by the kind that byte 0 names; where it names none that is the case: unknown kind, or gap
-abbrev pub case_of : Direction → List ℕ → Found → Bool
-case_of d bytes Nothing = true
-case_of d bytes (Is k) = cut_short bytes k || bit_set bytes k || not (control_coded d bytes k) || not (extended_coded d bytes k) || tail_below d bytes k
+abbrev pub case_of : Direction → List ℕ → Option Kind → Bool
+case_of d bytes None = true
+case_of d bytes (Some k) = cut_short bytes k || bit_set bytes k || not (control_coded d bytes k) || not (extended_coded d bytes k) || tail_below d bytes k
 
 -- one of the cases of number 5 holds
 abbrev pub faulty : Direction → List ℕ → Bool

@@ -3,7 +3,7 @@
 #![tactic(auto)]
 
 // Which way a capture was taken.
-#[derive(Clone, Copy)]
+#[derive(Clone, Copy, PartialEq, Eq)]
 pub enum Direction {
     Uplink,
     Downlink,
@@ -18,7 +18,7 @@ pub struct Terms {
 }
 
 // The synchronisation patterns (5.2.1 to 5.2.3).
-#[derive(Clone, Copy)]
+#[derive(Clone, Copy, PartialEq, Eq)]
 pub enum Pattern {
     Hr,
     Low,
@@ -27,9 +27,9 @@ pub enum Pattern {
 }
 
 // The kinds of frame, numbered from 1.
-#[derive(Clone, Copy)]
+#[derive(Clone, Copy, PartialEq, Eq)]
 pub enum Kind {
-    Speech,
+    Speech = 1,
     Data,
     Om,
     Configuration,
@@ -37,11 +37,4 @@ pub enum Kind {
     Lower,
     Amr670,
     Amr740,
-}
-
-// A kind, or none.
-#[derive(Clone, Copy)]
-pub enum Found {
-    Is(Kind),
-    Nothing,
 }

@@ -4,34 +4,28 @@
 pub mod places;
 
 ghost use Rattle.std.specs.Prelude.{◌≡◌, true, not, ◌&&◌, [], ◌∷◌, List, ◌<◌, ℕ};
-ghost use Rattle.bits.specs.Bit.{bit_at, number};
-ghost use Rattle.channel.specs.Places.{elem, xc_places};
-ghost use Rattle.channel.specs.Coding.{bits_at, all, c4_coded, xc_coded, speech_xc, fixed};
+ghost use Rattle.bits.specs.Bit.{bit_at};
+ghost use Rattle.channel.specs.Places.{elem};
+ghost use Rattle.channel.specs.Coding.{all, c4_coded, xc_coded, speech_xc, fixed};
 ghost use Rattle.channel.specs.declared.Pattern.{Pattern as Fixed};
 ghost use Rattle.channel.specs.declared.Pattern.TheVariants.{Hr, Low};
-ghost use Rattle.word.specs.Words.{Holds, FixedBy};
-ghost use Rattle.coding.specs.Found.{SyncOf, Coded, KindOf};
+ghost use Rattle.word.specs.Words.{octets_in, FixedBy};
+ghost use Rattle.channel.specs.declared.Direction.{Direction as Way};
+ghost use Rattle.coding.specs.Found.{SyncOf, XcOf, Coded, KindOf};
 
-use channel::{Direction, Found, Kind, Pattern, Terms};
+use channel::{Direction, Kind, Pattern, Terms};
 use word::Words;
-
-// A pattern, or none.
-#[derive(Clone, Copy)]
-pub enum Sync {
-    In(Pattern),
-    Nowhere,
-}
 
 // Whether the fixed bits of a pattern hold, by two frames: one has a one where a bit is fixed, the other has the fixed ones.
 fn holds_by(w: Words, mask: &[u8; 20], fixed: &[u8; 20]) -> bool
-    ensures { (o zeros ones : List ℕ) → Holds (bit_at o) w.a w.b w.c → FixedBy zeros ones mask.now fixed.now → result ≡ all (λ i. not (bit_at o i)) zeros && all (bit_at o) ones }
+    ensures { (zeros ones : List ℕ) → FixedBy zeros ones mask.now fixed.now → result ≡ all (λ i. not (bit_at (octets_in w) i)) zeros && all (bit_at (octets_in w)) ones }
 {
     word::fixed(w, word::words_of(mask), word::words_of(fixed))
 }
 
 // Whether the fixed bits of a pattern hold.
 fn holds(w: Words, t: Pattern) -> bool
-    ensures { (o : List ℕ) → Holds (bit_at o) w.a w.b w.c → result ≡ fixed (bit_at o) t }
+    ensures { result ≡ fixed (bit_at (octets_in w)) t }
 {
     match t {
         Pattern::Hr => holds_by(w, &places::HR_MASK, &places::HR_FIXED),
@@ -43,29 +37,25 @@ fn holds(w: Words, t: Pattern) -> bool
 
 // The one pattern whose fixed bits can hold: octet 1 bit 3, octet 3 bit 1 and octet 4 bit 1 rule out the others.
 fn candidate(w: Words) -> Pattern
-    ensures { (o : List ℕ) → Holds (bit_at o) w.a w.b w.c → (t : Fixed) → fixed (bit_at o) t ≡ true → t ≡ result }
+    ensures { (t : Fixed) → fixed (bit_at (octets_in w)) t ≡ true → t ≡ result }
 {
-    if word::field_of(w.a, 2, 1) == 1 {
-        return Pattern::P740;
+    if w.field(2, 1) == 1 {
+        Pattern::P740
+    } else if w.field(16, 1) == 0 {
+        Pattern::Hr
+    } else if w.field(24, 1) == 1 {
+        Pattern::P670
+    } else {
+        Pattern::Low
     }
-    if word::field_of(w.a, 16, 1) == 0 {
-        return Pattern::Hr;
-    }
-    if word::field_of(w.a, 24, 1) == 1 {
-        return Pattern::P670;
-    }
-    Pattern::Low
 }
 
 // The pattern whose fixed bits hold, all of them tested at once.
-fn pattern_of(w: Words) -> Sync
-    ensures { (o : List ℕ) → Holds (bit_at o) w.a w.b w.c → SyncOf (bit_at o) result }
+fn pattern_of(w: Words) -> Option<Pattern>
+    ensures { SyncOf (bit_at (octets_in w)) result }
 {
     let t = candidate(w);
-    if holds(w, t) {
-        return Sync::In(t);
-    }
-    Sync::Nowhere
+    holds(w, t).then_some(t)
 }
 
 // Whether C4 may have its value: it is one in uplink, either in downlink.
@@ -78,22 +68,21 @@ fn c4_coded(d: Direction, c4: bool) -> bool
     }
 }
 
-// XC1..XC6 packed: octet 2 bits 7, 8 and octet 3 bits 3..6.
-fn xc_field(w: Words) -> u32
-    ensures { (result < 64) × ((o : List ℕ) → Holds (bit_at o) w.a w.b w.c → result ≡ number (bits_at (bit_at o) xc_places)) }
+// XC1..XC5 as a number, where XC1..XC6 (octet 2 bits 7, 8 and octet 3 bits 3..6) have an odd number of ones, as those of every coding have.
+fn xc_number(w: Words) -> Option<u32>
+    ensures { XcOf (bit_at (octets_in w)) result }
 {
-    16 * word::field_of(w.a, 14, 2) + word::field_of(w.a, 18, 4)
+    let xc = 16 * w.field(14, 2) + w.field(18, 4);
+    fields::odd_ones(xc).then_some(xc / 2)
 }
 
 // Whether XC1..XC6 of a speech frame are a coding: XC1..XC5 read as a number are 0..3 or 8..15 in uplink, 0 or 2 in downlink.
 fn speech_xc(w: Words, d: Direction) -> bool
-    ensures { (o : List ℕ) → Holds (bit_at o) w.a w.b w.c → result ≡ xc_coded (bit_at o) (speech_xc d) }
+    ensures { result ≡ xc_coded (bit_at (octets_in w)) (speech_xc d) }
 {
-    let xc = xc_field(w);
-    if fields::odd_ones(xc) {
-        speech_number(d, xc / 2)
-    } else {
-        false
+    match xc_number(w) {
+        Some(v) => speech_number(d, v),
+        None => false,
     }
 }
 
@@ -110,76 +99,49 @@ fn speech_number(d: Direction, v: u32) -> bool
 
 // Whether XC1..XC6 of an O&M frame are its coding: XC1..XC5 are ones.
 fn om_xc(w: Words) -> bool
-    ensures { (o : List ℕ) → Holds (bit_at o) w.a w.b w.c → result ≡ xc_coded (bit_at o) (31 ∷ []) }
+    ensures { result ≡ xc_coded (bit_at (octets_in w)) (31 ∷ []) }
 {
-    let xc = xc_field(w);
-    if fields::odd_ones(xc) {
-        xc / 2 == 31
-    } else {
-        false
-    }
+    xc_number(w) == Some(31)
 }
 
 // The kind of the HR pattern whose coding holds: C1..C5 (octet 2 bits 2..6) by their parity, C4 by the direction, C1..C3 by type, then the XC bits.
-fn hr_kind(w: Words, d: Direction) -> Found
-    ensures { (o : List ℕ) → Holds (bit_at o) w.a w.b w.c → Coded d (bit_at o) Hr result }
+fn hr_kind(w: Words, d: Direction) -> Option<Kind>
+    ensures { Coded d (bit_at (octets_in w)) Hr result }
 {
-    let c = word::field_of(w.a, 9, 5);
-    if !fields::odd_ones(c) {
-        return Found::Nothing;
+    let c = w.field(9, 5);
+    if !fields::odd_ones(c) || !c4_coded(d, c / 2 % 2 == 1) {
+        return None;
     }
-    if !c4_coded(d, c / 2 % 2 == 1) {
-        return Found::Nothing;
+    match c / 4 {
+        0 => speech_xc(w, d).then_some(Kind::Speech),
+        1 => Some(Kind::Data),
+        2 => om_xc(w).then_some(Kind::Om),
+        7 => Some(Kind::Configuration),
+        _ => None,
     }
-    let c1to3 = c / 4;
-    if c1to3 == 0 {
-        if speech_xc(w, d) {
-            return Found::Is(Kind::Speech);
-        }
-        return Found::Nothing;
-    }
-    if c1to3 == 1 {
-        return Found::Is(Kind::Data);
-    }
-    if c1to3 == 2 {
-        if om_xc(w) {
-            return Found::Is(Kind::Om);
-        }
-        return Found::Nothing;
-    }
-    if c1to3 == 7 {
-        return Found::Is(Kind::Configuration);
-    }
-    Found::Nothing
 }
 
 // The kind of the Low pattern whose coding holds: C4 C5 of 00 is kind 5, with C1..C3 of 100 or 101; otherwise kind 6. C1..C5 are octet 3 bits 2..6.
-fn low_kind(w: Words, d: Direction) -> Found
-    ensures { (o : List ℕ) → Holds (bit_at o) w.a w.b w.c → Coded d (bit_at o) Low result }
+fn low_kind(w: Words) -> Option<Kind>
+    ensures { (d : Way) → Coded d (bit_at (octets_in w)) Low result }
 {
-    let c = word::field_of(w.a, 17, 5);
+    let c = w.field(17, 5);
     if c % 4 != 0 {
-        return Found::Is(Kind::Lower);
+        Some(Kind::Lower)
+    } else {
+        (c / 8 == 2).then_some(Kind::NoSpeech)
     }
-    if c / 8 == 2 {
-        return Found::Is(Kind::NoSpeech);
-    }
-    Found::Nothing
 }
 
 // The kind of a frame, by fixed bits and coding. Only words are read here: where single octets are read too, the compiler no longer reads eight at once.
-pub fn kind_of(o: [u8; 20], t: Terms) -> Found
+pub fn kind_of(o: [u8; 20], t: Terms) -> Option<Kind>
     ensures { KindOf t (bit_at o) result }
 {
-    let d = t.direction;
     let w = word::words_of(&o);
-    match pattern_of(w) {
-        Sync::In(p) => match p {
-            Pattern::Hr => hr_kind(w, d),
-            Pattern::Low => low_kind(w, d),
-            Pattern::P670 => Found::Is(Kind::Amr670),
-            Pattern::P740 => Found::Is(Kind::Amr740),
-        },
-        Sync::Nowhere => Found::Nothing,
+    match pattern_of(w)? {
+        Pattern::Hr => hr_kind(w, t.direction),
+        Pattern::Low => low_kind(w),
+        Pattern::P670 => Some(Kind::Amr670),
+        Pattern::P740 => Some(Kind::Amr740),
     }
 }

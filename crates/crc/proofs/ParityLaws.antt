@@ -1,23 +1,28 @@
--- Masks made place by place: turning a bit of a mask turns the parity where that bit is one, and nine masks grow with a list from its end.
+-- Masks made place by place: turning a bit of a mask turns the parity where that bit is one, and the masks of a list grow from its end.
 -- Assumes nothing.
 use mathlib.Core.Path.{◌≡◌, refl, sym, ◌∙◌, ap, ap₂}
 use mathlib.Core.Bool.{Bool, true, false, cond}
-use mathlib.Core.List.{List, [], ◌∷◌}
+use mathlib.Core.List.{List, [], ◌∷◌, ◌++◌}
 use Prim.Native.Nat.{ℕ, zero, suc, ◌+◌, ◌*◌, ◌-◌, ◌/◌, ◌%◌, ◌^◌, ◌<◌, ◌≤◌, min}
 use native.Mathlib.Nat.{zero-add, zero-mul, one-mul}
 use native.Mathlib.Omega.{arith}
+use Rattle.std.proofs.Math.Seq.{get_or-append_seam}
 use lib.Bits.{bit_and, bit_xor, and_step, xor_step, xor_zero_r, and_zero_r, differ, shifted_half, shifted_even}
 use lib.Count as Count
-use lib.ListN.{length, get_or, drop}
+use lib.ListN.{length, get_or}
+use Rattle.std.proofs.Common.{append_assoc, append-nil, length-append}
 use lib.Pow.{shr-shr}
-use lib.Seq.{drop-cons}
 use Rattle.bits.specs.Bit.{to_n, number}
+use Rattle.bits.proofs.BitLaws.{to_n_lt}
 use Rattle.channel.specs.Poly.{◌⊕◌, Rem}
 use Rattle.channel.specs.Coding.{Word, bits_at, ones}
 use Rattle.channel.specs.Crc.{push}
+use Rattle.fields.specs.Below.{Below}
+use Rattle.word.specs.declared.Words.{Words}
 use Rattle.word.specs.Words.{field_at}
+use Rattle.crc.specs.declared.Taps.{Taps}
 use Rattle.word.proofs.FieldLaws.{shl_one, field_in}
-use Rattle.crc.specs.Taps.{power, taps, ParityOf}
+use Rattle.crc.specs.Taps.{power, taps, ParityOf, MasksOf}
 use Rattle.crc.proofs.TapLaws.{power-next}
 
 -- the ones under a mask, by the last digit
@@ -145,34 +150,73 @@ ones_none = refl
 pub parity-none : ParityOf [] 0 0 0
 parity-none = record { odd_alike = λ g x y z s. rw (and_zero_r x, and_zero_r y, and_zero_r z) (omega (arith, ones_none)) }
 
--- a turn of the loop: the place before those that the masks have, and its power
-module _ (ps : List ℕ) (j k : ℕ) (e : k + 1 ≡ j) (l : j ≤ length ps) where
-  before : drop k ps ≡ get_or ps k 0 ∷ drop j ps
-  before = let f : suc k ≡ j = omega arith in rw f at (drop-cons ps k 0 (omega arith))
+-- What a loop over some places from the last on has made once the rest are left: the masks of those behind, and what the power of the next leaves.
+pub record Behind (ps rest : List ℕ) (x2 x1 x0 : ℕ) (m : Taps) : Type 0 where
+  pub done : List ℕ
+  pub whole : ps ≡ rest ++ done
+  pub square : x2 ≡ to_n (power (length done)).r2
+  pub linear : x1 ≡ to_n (power (length done)).r1
+  pub constant : x0 ≡ to_n (power (length done)).r0
+  pub masks : MasksOf done m
 
-  pub grown : (f : Rem → Bool) (x a b c a' b' c' : ℕ) → x ≡ to_n (f (power (length (drop j ps))))
-      → ((qs : List ℕ) (t : Bool) → x ≡ to_n t → ParityOf qs a b c → ParityOf (cond t (get_or ps k 0 ∷ qs) qs) a' b' c')
-      → ParityOf (taps f (drop j ps)) a b c → ParityOf (taps f (drop k ps)) a' b' c'
-  grown f x a b c a' b' c' d step h = rw before (step (taps f (drop j ps)) (f (power (length (drop j ps)))) d h)
+pub behind_none : (ps rest : List ℕ) → rest ≡ ps → Behind ps rest 0 0 1 (record { two = record { a = 0; b = 0; c = 0 }; one = record { a = 0; b = 0; c = 0 }; nil = record { a = 0; b = 0; c = 0 } })
+behind_none ps rest e =
+    record {
+      done = [];
+      whole = rw e (sym (append-nil ps));
+      square = refl;
+      linear = refl;
+      constant = refl;
+      masks = record { two = parity-none; one = parity-none; nil = parity-none };
+    }
 
-  next : power (length (drop k ps)) ≡ push (power (length (drop j ps))) false
-  next = ap (λ (qs : List ℕ). power (length qs)) before ∙ sym (power-next (length (drop j ps)))
+module _ (ps rest left : List ℕ) (p x2 x1 x0 : ℕ) (m : Taps) (e : rest ≡ left ++ p ∷ []) (b : Behind ps rest x2 x1 x0 m) where
+  again : ps ≡ left ++ p ∷ b.done
+  again = b.whole ∙ rw e (append_assoc left (p ∷ []) b.done)
 
-  pub next-two : (x : ℕ) → x ≡ to_n (power (length (drop j ps))).r1 → x ≡ to_n (power (length (drop k ps))).r2
-  next-two x h = h ∙ ap (λ (r : Rem). to_n r.r2) (sym next)
+  pub behind_below : Below 160 ps → p < 160
+  behind_below h =
+      let at : get_or ps (length left) 0 ≡ p = rw again (get_or-append_seam left p b.done 0) in
+      let long : length ps ≡ length left + suc (length b.done) = rw again (length-append left (p ∷ b.done)) in
+      rw at at (h (length left) (omega arith))
 
-  pub next_one : (x y : ℕ) → x ≡ to_n (power (length (drop j ps))).r0 → y ≡ to_n (power (length (drop j ps))).r2 → bit_xor x y ≡ to_n (power (length (drop k ps))).r1
-  next_one x y h i = rw (h, i) (go (power (length (drop j ps))).r0 (power (length (drop j ps))).r2) ∙ ap (λ (r : Rem). to_n r.r1) (sym next)
-    where
-      go : (a b : Bool) → bit_xor (to_n a) (to_n b) ≡ to_n (a ⊕ b)
-      go true true = refl
-      go true false = refl
-      go false true = refl
-      go false false = refl
+  next : power (suc (length b.done)) ≡ push (power (length b.done)) false
+  next = sym (power-next (length b.done))
 
-  pub next-nil : (x : ℕ) → x ≡ to_n (power (length (drop j ps))).r2 → x ≡ to_n (power (length (drop k ps))).r0
-  next-nil x h = h ∙ go (power (length (drop j ps))).r2 ∙ ap (λ (r : Rem). to_n r.r0) (sym next)
-    where
-      go : (a : Bool) → to_n a ≡ to_n (false ⊕ a)
-      go true = refl
-      go false = refl
+  middle : (a c : Bool) → bit_xor (to_n a) (to_n c) ≡ to_n (a ⊕ c)
+  middle true true = refl
+  middle true false = refl
+  middle false true = refl
+  middle false false = refl
+
+  last : (a : Bool) → to_n a ≡ to_n (false ⊕ a)
+  last true = refl
+  last false = refl
+
+  abbrev Tap : ℕ → Words → Words → Type 0
+  Tap x before after = (qs : List ℕ) (t : Bool) → x ≡ to_n t → ParityOf qs before.a before.b before.c → ParityOf (cond t (p ∷ qs) qs) after.a after.b after.c
+
+  pub behind_more : (n : Taps) → Tap x2 m.two n.two → Tap x1 m.one n.one → Tap x0 m.nil n.nil → Behind ps left x1 (bit_xor x0 x2) x2 n
+  behind_more n two one nil =
+      record {
+        done = p ∷ b.done;
+        whole = again;
+        square = b.linear ∙ ap (λ (r : Rem). to_n r.r2) (sym next);
+        linear = rw (b.constant, b.square) (middle (power (length b.done)).r0 (power (length b.done)).r2) ∙ ap (λ (r : Rem). to_n r.r1) (sym next);
+        constant = b.square ∙ last (power (length b.done)).r2 ∙ ap (λ (r : Rem). to_n r.r0) (sym next);
+        masks = record {
+          two = two (taps (λ r. r.r2) b.done) (power (length b.done)).r2 b.square b.masks.two;
+          one = one (taps (λ r. r.r1) b.done) (power (length b.done)).r1 b.linear b.masks.one;
+          nil = nil (taps (λ r. r.r0) b.done) (power (length b.done)).r0 b.constant b.masks.nil;
+        };
+      }
+
+pub behind_all : (ps rest : List ℕ) (x2 x1 x0 : ℕ) (m : Taps) → length rest ≡ 0 → Behind ps rest x2 x1 x0 m → MasksOf ps m
+behind_all ps [] x2 x1 x0 m e b = rw b.whole b.masks
+behind_all ps (p ∷ rest) x2 x1 x0 m e b = absurd (omega arith)
+
+-- a digit of a power is one or nothing
+pub behind_bits : (ps rest : List ℕ) (x2 x1 x0 : ℕ) (m : Taps) → Behind ps rest x2 x1 x0 m → (x2 < 2) × (x1 < 2) × (x0 < 2)
+behind_bits ps rest x2 x1 x0 m b =
+    let r = power (length b.done) in
+    (rw b.square (to_n_lt r.r2), rw b.linear (to_n_lt r.r1), rw b.constant (to_n_lt r.r0))

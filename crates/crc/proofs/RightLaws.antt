@@ -1,20 +1,20 @@
 -- A CRC is right where the ones under each of three masks are odd in number.
 -- Assumes nothing.
 use mathlib.Core.Path.{◌≡◌, sym, ◌∙◌, ap, ap₂}
-use mathlib.Core.Bool.{Bool, true, false, not}
+use mathlib.Core.Bool.{◌&&◌}
 use mathlib.Core.List.{List}
 use Prim.Native.Nat.{ℕ, zero, suc, ◌+◌, ◌*◌, ◌/◌, ◌%◌, ◌<◌}
 use native.Mathlib.Omega.{arith}
-use borrow.Author.Tests.{not-true, not-false}
 use lib.Arith.{bin_ind}
 use lib.Bits.{bit_xor, xor_step, differ}
 use lib.Count as Count
 use lib.Dec.{eqb}
-use lib.ListN.{get_or}
 use Rattle.channel.specs.Coding.{Word, bits_at, odd}
 use Rattle.channel.specs.Crc.{right}
+use Rattle.word.specs.declared.Words.{Words}
 use Rattle.word.specs.Words.{Holds}
-use Rattle.crc.specs.Taps.{taps, ParityOf, odd_under, MasksAt}
+use Rattle.crc.specs.declared.Taps.{Taps}
+use Rattle.crc.specs.Taps.{ParityOf, odd_under, MasksOf}
 use Rattle.crc.proofs.TapLaws.{right-taps}
 use Rattle.crc.proofs.ParityLaws.{ones_none}
 
@@ -57,30 +57,14 @@ xor_ones = bin_ind (λ (n : ℕ). (b : ℕ) → Count.ones (bit_xor n b) % 2 ≡
 ones_pair : (x y z : ℕ) → Count.ones (bit_xor (bit_xor x y) z) % 2 ≡ (Count.ones x + Count.ones y + Count.ones z) % 2
 ones_pair x y z = omega (arith, xor_ones (bit_xor x y) z, xor_ones x y)
 
-module _ (g : Word) (ps ms : List ℕ) (at p q r : ℕ) (h : Holds g p q r) (t : MasksAt ps ms at) where
-  -- the parity by three masks is that of the bits at the places they are of
-  odd_is : (i : ℕ) (qs : List ℕ) → ParityOf qs (get_or ms i 0) (get_or ms (i + 1) 0) (get_or ms (i + 2) 0) → odd_under p q r ms i ≡ odd (bits_at g qs)
-  odd_is i qs m = ap (λ (n : ℕ). eqb n 1) (ones_pair _ _ _ ∙ m.odd_alike g p q r h)
+-- the parity by a mask is that of the bits at the places it is of
+odd_is : (g : Word) (p q r : ℕ) (qs : List ℕ) (m : Words) → Holds g p q r → ParityOf qs m.a m.b m.c → odd_under p q r m ≡ odd (bits_at g qs)
+odd_is g p q r qs m h t = ap (λ (n : ℕ). eqb n 1) (ones_pair _ _ _ ∙ t.odd_alike g p q r h)
 
-  first : odd_under p q r ms at ≡ odd (bits_at g (taps (λ r. r.r2) ps))
-  first = odd_is at _ t.two
+-- so a CRC is right where all three are odd
+pub right_odd : (g : Word) (p q r : ℕ) (ps : List ℕ) (m : Taps) → Holds g p q r → MasksOf ps m → odd_under p q r m.two && odd_under p q r m.one && odd_under p q r m.nil ≡ right g ps
+right_odd g p q r ps m h t = rw (odd_is g p q r _ m.two h t.two, odd_is g p q r _ m.one h t.one, odd_is g p q r _ m.nil h t.nil) (sym (right-taps g ps))
 
-  second : odd_under p q r ms (at + 3) ≡ odd (bits_at g (taps (λ r. r.r1) ps))
-  second = let a : at + 3 + 1 ≡ at + 4 = omega arith in let b : at + 3 + 2 ≡ at + 5 = omega arith in odd_is (at + 3) (taps (λ r. r.r1) ps) (rw (a, b) t.one)
-
-  third : odd_under p q r ms (at + 6) ≡ odd (bits_at g (taps (λ r. r.r0) ps))
-  third = let a : at + 6 + 1 ≡ at + 7 = omega arith in let b : at + 6 + 2 ≡ at + 8 = omega arith in odd_is (at + 6) (taps (λ r. r.r0) ps) (rw (a, b) t.nil)
-
-  -- as the code has it: the first of three tests that fails decides
-  pub right-first : (x : Bool) → x ≡ odd_under p q r ms at → not x ≡ true → false ≡ right g ps
-  right-first x a e = let z : odd (bits_at g (taps (λ r. r.r2) ps)) ≡ false = sym (a ∙ first) ∙ not-true x e in sym (right-taps g ps ∙ rw z)
-
-  module _ (x y : Bool) (a : x ≡ odd_under p q r ms at) (e : not x ≡ false) (b : y ≡ odd_under p q r ms (at + 3)) where
-    z : odd (bits_at g (taps (λ r. r.r2) ps)) ≡ true
-    z = sym (a ∙ first) ∙ not-false x e
-
-    pub right-second : not y ≡ true → false ≡ right g ps
-    right-second f = let u : odd (bits_at g (taps (λ r. r.r1) ps)) ≡ false = sym (b ∙ second) ∙ not-true y f in sym (right-taps g ps ∙ rw (z, u))
-
-    pub right-third : (v : Bool) → not y ≡ false → v ≡ odd_under p q r ms (at + 6) → v ≡ right g ps
-    right-third v f c = let u : odd (bits_at g (taps (λ r. r.r1) ps)) ≡ true = sym (b ∙ second) ∙ not-false y f in c ∙ third ∙ sym (right-taps g ps ∙ rw (z, u))
+-- and alike for all octets that have these words
+pub right_alike : (g h : Word) (p q r : ℕ) (ps : List ℕ) (m : Taps) → Holds g p q r → Holds h p q r → MasksOf ps m → right g ps ≡ right h ps
+right_alike g h p q r ps m a b t = sym (right_odd g p q r ps m a t) ∙ right_odd h p q r ps m b t

@@ -3,7 +3,7 @@
 use mathlib.Core.Path.{◌≡◌, refl, sym, ◌∙◌, ap}
 use mathlib.Core.Logic.{by_cases}
 use mathlib.Core.List.{List, ◌++◌, map}
-use Prim.Native.Nat.{ℕ, ◌+◌, ◌*◌, ◌-◌, ◌/◌, ◌%◌, ◌<◌, ◌≤◌}
+use Prim.Native.Nat.{ℕ, ◌+◌, ◌*◌, ◌-◌, ◌/◌, ◌<◌, ◌≤◌}
 use native.Mathlib.Decide.{dec_lt, ℕ_discrete}
 use native.Mathlib.Nat.{mul-le-mul_right, zero-add}
 use native.Mathlib.Omega.{arith}
@@ -13,7 +13,8 @@ use Rattle.bits.specs.Bit.{bit_at, count}
 use Rattle.bits.proofs.CountLaws.{length-map-count, get_d_map_count}
 use Rattle.channel.specs.Coding.{bits_at}
 use Rattle.channel.specs.Control.{from_top}
-use Rattle.plans.specs.Plan.{quick_at, PlanOf}
+use Rattle.entries.specs.declared.Entry.{Entry}
+use Rattle.plans.specs.Plan.{entry_at, quick_at, PlanOf}
 use Rattle.dbits.proofs.DBitLaws.{byte_of, bytes_rest}
 
 -- a byte by a factor
@@ -54,9 +55,9 @@ behind-at f g n rest j l = at f ∙ sym (at g)
         ap (λ (i : ℕ). get_or (map h (count n 0) ++ rest) i 0) e ∙ get_or-append-add (map h (count n 0)) rest (j - n) 0
 
 -- the bytes of a plan: by their entries, but for those that are not
-module _ (ps plan o : List ℕ) (base n : ℕ) (p : PlanOf ps plan base) (count-is : n ≡ (length ps + 7) / 8) (short : n ≤ 19) where
+module _ (ps o : List ℕ) (entries : List Entry) (from to n : ℕ) (p : PlanOf ps entries from to) (count-is : n ≡ (length ps + 7) / 8) (short : n ≤ 19) where
   pub all-bytes : (r : List ℕ)
-      → Anew (λ j. from_top (drop (8 * j) (bits_at (bit_at o) ps))) (get_or plan (base + 57) 0 % 32) (get_or plan (base + 57) 0 / 32) (map (λ j. quick_at o plan (base + 3 * j)) (count n 0) ++ drop n (replicate 19 0)) r
+      → Anew (λ j. from_top (drop (8 * j) (bits_at (bit_at o) ps))) from to (map (λ j. quick_at o (entry_at entries j)) (count n 0) ++ drop n (replicate 19 0)) r
       → r ≡ map (λ j. from_top (drop (8 * j) (bits_at (bit_at o) ps))) (count 19 0)
   all-bytes r a =
       ext_get_or 0 r (map slow (count n 0) ++ rest) (a.size ∙ same_length) (λ j l. at j)
@@ -66,16 +67,10 @@ module _ (ps plan o : List ℕ) (base n : ℕ) (p : PlanOf ps plan base) (count-
       slow j = from_top (drop (8 * j) (bits_at (bit_at o) ps))
 
       quick : ℕ → ℕ
-      quick j = quick_at o plan (base + 3 * j)
+      quick j = quick_at o (entry_at entries j)
 
       rest : List ℕ
       rest = drop n (replicate 19 0)
-
-      from : ℕ
-      from = get_or plan (base + 57) 0 % 32
-
-      to : ℕ
-      to = get_or plan (base + 57) 0 / 32
 
       same_length : length (map quick (count n 0) ++ rest) ≡ length (map slow (count n 0) ++ rest)
       same_length =
@@ -83,7 +78,7 @@ module _ (ps plan o : List ℕ) (base n : ℕ) (p : PlanOf ps plan base) (count-
           ∙ sym (length-append (map slow (count n 0)) rest)
 
       by_entry : (j : ℕ) → j < n → (from ≤ j → j < to → ⊥) → quick j ≡ slow j
-      by_entry j l out = (p.entries j (omega arith)).made (p.others j (omega arith) out) o ∙ byte_of (bit_at o) ps j 8 refl
+      by_entry j l out = (p.others j (omega arith) out).made o ∙ byte_of (bit_at o) ps j 8 refl
 
       kept : (j : ℕ) → (from ≤ j → j < to → ⊥) → get_or r j 0 ≡ get_or (map slow (count n 0) ++ rest) j 0
       kept j out =

@@ -1,7 +1,6 @@
 -- The table of D bits against the rule of each kind.
 -- Assumes nothing.
 use mathlib.Core.Path.{◌≡◌, refl, sym, ◌∙◌, ap}
-use mathlib.Core.Logic.{inl, inr}
 use mathlib.Core.Bool.{Bool, true, false, cond}
 use mathlib.Core.List.{List, [], ◌∷◌}
 use Prim.Native.Nat.{ℕ, zero, suc, ◌+◌, ◌-◌, ◌<◌, ◌≤◌}
@@ -18,7 +17,7 @@ use Rattle.channel.specs.Places.{elem, d_places}
 use Rattle.channel.proofs.FrameLaws.{body_high}
 use Rattle.channel.proofs.DLaws.{Rule, d_rule}
 use Rattle.fields.specs.Below.{Below}
-use Rattle.dplaces.specs.DPlaces.{all_places, d_from, Lent}
+use Rattle.dplaces.specs.DPlaces.{all_places, d_from}
 
 -- a kind's part of the table is the list of its D places
 d-part : (k : Kind) → take (d_count k) (drop (d_from k) all_places) ≡ d_places k
@@ -100,11 +99,6 @@ pub kind-part : (k : Kind) (places : List ℕ) (from n : ℕ) → places ≡ all
 kind-part k places from n p f c =
     let e : from + n - from ≡ n = omega arith in
     rw (e, p, f, c) (d-part k)
-
--- what is lent, if it is anything, is the table
-pub lent-table : (places : List ℕ) → Lent places → (length places ≡ 0 → ⊥) → places ≡ all_places
-lent-table places (inl none) some = absurd (some (ap length none))
-lent-table places (inr all) some = all
 
 -- n places of a kind behind the first a, found in the table
 pub part-is : (k : Kind) (places : List ℕ) (a n : ℕ) → places ≡ all_places → a + n ≤ d_count k → take n (drop (d_from k + a) places) ≡ take n (drop a (d_places k))

@@ -1,6 +1,6 @@
 -- The table of D bits (document 01, "Frames": "One constant table holds the place of each of the 1,022 D bits of the eight kinds").
 -- Assumes nothing.
-use Rattle.std.specs.Prelude.{◌≡◌, ◌⊎◌, List, [], map, ℕ}
+use Rattle.std.specs.Prelude.{List, map, ℕ}
 use Rattle.reading.specs.Reading.{joined}
 use Rattle.channel.specs.declared.Kind.{Kind}
 use Rattle.channel.specs.declared.Kind.TheVariants.{Speech, Data, Om, Configuration, NoSpeech, Lower, Amr670, Amr740}
@@ -21,7 +21,3 @@ d_from NoSpeech = 483
 d_from Lower = 608
 d_from Amr670 = 734
 d_from Amr740 = 871
-
--- what a call lends of the table: nothing, and then places are worked out (document 02, Ask 4), or all of it
-abbrev pub Lent : List ℕ → Type 0
-Lent places = (places ≡ []) ⊎ (places ≡ all_places)

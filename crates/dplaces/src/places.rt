@@ -1,7 +1,7 @@
 // The one table of D bits.
 
 // The place of each of the 1,022 D bits of the eight kinds, one kind behind the other; D'1..D'63 of a data frame count as D64..D126.
-pub const D_PLACES: [u8; 1022] = [
+pub static D_PLACES: [u8; 1022] = [
     22, // kind 1: D1, octet 3 bit 7
     23, // kind 1: D2, octet 3 bit 8
     25, // kind 1: D3, octet 4 bit 2

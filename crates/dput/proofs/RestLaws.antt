@@ -3,16 +3,18 @@
 use mathlib.Core.Path.{◌≡◌, sym, ◌∙◌, ap}
 use mathlib.Core.Logic.{by_cases}
 use mathlib.Core.Bool.{Bool}
-use mathlib.Core.List.{List, []}
-use Prim.Native.Nat.{ℕ, ◌+◌, ◌*◌, ◌/◌, ◌%◌, ◌^◌, ◌<◌, ◌≤◌}
+use mathlib.Core.List.{List, [], ◌∷◌}
+use Prim.Native.Nat.{ℕ, zero, suc, ◌+◌, ◌*◌, ◌/◌, ◌%◌, ◌^◌, ◌<◌, ◌≤◌}
 use native.Mathlib.Decide.{dec_lt}
 use native.Mathlib.Omega.{arith}
 use lib.Pow.{shl_exact, shr_le, split}
-use lib.ListN.{length, get_or, take, drop, length-take, take-append-drop, length-drop, drop_of_length-le}
+use lib.ListN.{length, get_or, set, take, drop, length-take, take-append-drop, length-drop, drop_of_length-le}
 use lib.Seq.{drop-drop, length-take-le, get_or-drop}
 use Rattle.bits.specs.Bit.{bit_at}
 use Rattle.scatter.specs.Scatter.{put_places}
 use Rattle.scatter.proofs.PlaceLaws.{places_end, places_append, places_same}
+use Rattle.entries.specs.declared.Entry.{Entry}
+use Rattle.entries.specs.Entry.{Octets, back}
 use Rattle.plans.specs.Plan.{PlanOf}
 use Rattle.dput.specs.Back.{BackFrom, Rest}
 
@@ -52,10 +54,22 @@ byte-front d i k =
     let b : (8 * i + k) % 8 ≡ k % 8 = omega arith in
     rw (a, b, get_or-drop i d (k / 8) 0)
 
+-- a byte put back leaves bytes
+set_small : (l : List ℕ) (i v k : ℕ) → v < 256 → get_or l k 0 < 256 → get_or (set l i v) k 0 < 256
+set_small [] i v k hv h = h
+set_small (x ∷ xs) zero v zero hv h = hv
+set_small (x ∷ xs) zero v (suc k) hv h = h
+set_small (x ∷ xs) (suc i) v zero hv h = h
+set_small (x ∷ xs) (suc i) v (suc k) hv h = set_small xs i v k hv h
+
+pub back_small : (o : List ℕ) (m b : ℕ) → Octets o → Octets (back o m b)
+unfolding back
+back_small o m b h k = set_small _ (m % 256 + 1) _ k (omega arith) (set_small o (m % 256) _ k (omega arith) (h k))
+
 -- the entries of a plan put their bytes back, but for those that they may not make
-pub plan_back : (ps plan : List ℕ) (base from to : ℕ) → PlanOf ps plan base → to ≤ (length ps + 7) / 8
-    → ((j : ℕ) → from ≤ j → j < to → get_or plan (base + 57) 0 % 32 ≤ j → j < get_or plan (base + 57) 0 / 32 → ⊥) → BackFrom ps plan base from to
-plan_back ps plan base from to p l other j a b = (p.entries j (omega arith)).put_back (p.others j (omega arith) (other j a b))
+pub plan_back : (ps : List ℕ) (entries : List Entry) (first last from to : ℕ) → PlanOf ps entries first last → to ≤ (length ps + 7) / 8
+    → ((j : ℕ) → from ≤ j → j < to → first ≤ j → j < last → ⊥) → BackFrom ps entries from to
+plan_back ps entries first last from to p l other j a b = (p.others j (omega arith) (other j a b)).put_back
 
 -- nothing is left behind the last byte
 pub rest_all : (ps d o r : List ℕ) (n : ℕ) → length ps ≤ 8 * n → Rest ps d 0 o n r → r ≡ put_places o ps (bit_at d) 0

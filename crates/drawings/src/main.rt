@@ -2,10 +2,11 @@
 #![tactic(auto)]
 
 use std::io;
+use text::Text;
 
 // Draws and writes.
 fn main(rt: HostRuntime) -> io::Result<()> {
-    let mut text = [0u8; 8192];
-    let end = drawing::drawings(&mut text);
-    rt.write_all(&text[..end])
+    let mut text = Text::<8192>::new();
+    drawing::drawings(&mut text);
+    rt.write_all(text.bytes())
 }

@@ -1,37 +1,31 @@
-// The number that refuses a sound record at a cursor: where it is not the one due there, or would end past the buffer.
+// What refuses the frame of a sound record at a cursor: where it is not the one due there, or would end past the buffer.
 #![tactic(auto)]
 
 ghost use Rattle.std.specs.Prelude.{◌≡◌, ◌≤◌};
-ghost use Rattle.masks.specs.Kept.{Kept};
-ghost use Rattle.item.specs.Item.{cursor_of};
+ghost use Rattle.item.specs.Item.{frame_of, cursor_of};
+ghost use Rattle.call.specs.Call.{number_in};
 ghost use Rattle.channel.specs.Sound.{sound_number};
-ghost use Rattle.parse.specs.Parsed.{frame_by};
 
-use channel::{Kind, Terms};
-use item::Cursor;
-use parse::Record;
+use call::Refusal;
+use channel::Terms;
+use item::{Cursor, Frame};
+use masks::Masks;
 
-// The number of the sound record of a frame of a kind on some terms, at a cursor and before the end of a buffer of some bits: 6 and 4 in that order, or 0.
-pub fn number(r: Record, k: Kind, t: Terms, c: Cursor, bits: usize, masks: &mut [u64]) -> u64
-    requires { (r.start ≤ 4294967295) × (r.tail ≤ 4294967295) × Kept masks.old }
-    ensures { (result ≡ sound_number t bits (cursor_of c) (frame_by r k)) × Kept masks.new }
+// Whether the frame of a sound record is taken on some terms, at a cursor and before the end of a buffer of some bits: refused where it is not the one due,
+// and then where it has no room.
+pub fn number(f: &Frame, t: Terms, c: Cursor, bits: usize, masks: &mut Masks) -> Result<(), Refusal>
+    requires { (f.now.start ≤ 4294967295) × (f.now.tail ≤ 4294967295) }
+    ensures { number_in result ≡ sound_number t bits (cursor_of c) (frame_of f.now) }
 {
-    let start = r.start;
-    let tail = r.tail;
-    let octets = r.octets;
-    let verdict = r.verdict;
-    if start != c.position {
-        return 6;
+    if f.start != c.position {
+        return Err(Refusal::NotDue);
     }
-    let due = verdict::verdict_in(octets, k, t, c.context, masks);
-    if verdict != due {
-        return 6;
+    let due = verdict::verdict_in(f.octets, f.kind, t, c.context, masks);
+    if f.verdict != due || !allowed::allowed_in(f.kind, c.context, due) {
+        return Err(Refusal::NotDue);
     }
-    if !allowed::allowed_in(k, c.context, due) {
-        return 6;
+    if bits < f.start + kinds::body(f.kind) + f.tail {
+        return Err(Refusal::NoRoom);
     }
-    if bits < start + kinds::body(k) + tail {
-        return 4;
-    }
-    0
+    Ok(())
 }

@@ -1,6 +1,6 @@
 -- The places of the D bits of a byte, however they are found.
 -- Assumes nothing.
-use mathlib.Core.Path.{◌≡◌, ◌∙◌}
+use mathlib.Core.Path.{◌≡◌}
 use mathlib.Core.List.{List, [], ◌∷◌, ◌++◌}
 use Prim.Native.Nat.{ℕ, zero, suc, ◌+◌, ◌*◌, ◌<◌, ◌≤◌}
 use native.Mathlib.Omega.{arith}
@@ -12,11 +12,10 @@ use Rattle.channel.specs.Places.{d_places}
 use Rattle.channel.proofs.DLaws.{Rises, d_rule}
 use Rattle.fields.specs.Below.{Below}
 use Rattle.scatter.proofs.PlaceLaws.{part-below}
-use Rattle.dplaces.specs.DPlaces.{all_places, d_from}
-use Rattle.dplaces.proofs.DPlaceLaws.{part-is, places_below, d_length_lem}
+use Rattle.dplaces.proofs.DPlaceLaws.{places_below, d_length_lem}
 use Rattle.entries.specs.Entry.{Rising}
 use Rattle.placing.specs.Eight.{size_of, eight_of}
-use Rattle.placing.proofs.PlacingLaws.{byte-size, byte_places}
+use Rattle.placing.proofs.PlacingLaws.{byte-size}
 
 -- a part of rising places rises
 part_rises : (ps : List ℕ) (a n : ℕ) → Rising ps → Rising (take n (drop a ps))
@@ -33,14 +32,9 @@ rises_rising a (p ∷ []) r j l = absurd (omega arith)
 rises_rising a (p ∷ (q ∷ ps)) r zero l = r.1.0
 rises_rising a (p ∷ (q ∷ ps)) r (suc j) l = rises_rising (suc p) (q ∷ ps) r.1 j (omega arith)
 
-module _ (k : Kind) (j n : ℕ) (inside : 8 * j < d_count k) (size : n ≡ size_of k j) where
-  -- the places of the D bits of byte j are found in the table
-  pub in_table : (places : List ℕ) → places ≡ all_places → take n (drop (d_from k + 8 * j) places) ≡ eight_of k j
-  in_table places table = part-is k places (8 * j) n table (omega arith) ∙ byte_places k j n inside size
-
-  -- and stand in front of zeros where they are worked out
-  pub worked_out : (places : List ℕ) → places ≡ eight_of k j ++ drop (size_of k j) (replicate 8 0) → take n places ≡ eight_of k j
-  worked_out places e = rw e (take_at (eight_of k j) (drop (size_of k j) (replicate 8 0)) n (byte-size k j n inside size))
+-- the places of a byte, in front of zeros
+pub worked_out : (k : Kind) (j n : ℕ) → 8 * j < d_count k → n ≡ size_of k j → (places : List ℕ) → places ≡ eight_of k j ++ drop (size_of k j) (replicate 8 0) → take n places ≡ eight_of k j
+worked_out k j n inside size places e = rw e (take_at (eight_of k j) (drop (size_of k j) (replicate 8 0)) n (byte-size k j n inside size))
 
 -- the places of a byte lie in a frame, rise, and are one to eight
 pub record Eight (ps : List ℕ) : Type 0 where

@@ -122,6 +122,14 @@ over u x v w l =
     plain : (u b c : ℕ) → (u + (b * 65536 + c)) / 256 % 256 ≡ (u + (0 * 65536 + c)) / 256 % 256
     plain u b c = omega arith
 
+-- the numbers of two runs are small
+pub entry-small : (ps : List ℕ) (s a f h m : ℕ) → s < length ps → length ps ≤ 8 → f ≤ 32768 → h ≤ 2 ^ 15 → m ≡ 2 ^ (16 - s) - 2 ^ (16 - length ps) → a < 19 → (w : ℕ)
+    → ((m + a + w * 65536) % 256 < 19) × (f ≤ 32768) × (h ≤ 32768)
+entry-small ps s a f h m l u small eh em in19 w =
+    let clear : m % 256 ≡ 0 = rw em (mask_whole (16 - s) (16 - length ps) (omega arith) (omega arith)) in
+    let i : (m + a + w * 65536) % 256 ≡ a = omega arith in
+    (rw i in19, small, eh)
+
 -- the byte of two runs
 pub entry-made : (ps : List ℕ) (s a f h m : ℕ) → Rising ps → s < length ps → length ps ≤ 8 → f ≤ 32768 → FirstRun ps s → FirstBy ps s a f
     → get_or ps s 0 / 8 ≡ a + 1 → get_or ps s 0 % 8 + (length ps - s) ≤ 8 → get_or ps (length ps - 1) 0 ≡ get_or ps s 0 + (length ps - 1 - s)
@@ -132,11 +140,8 @@ entry-made ps s a f h m rises l u small run first octet room last eh em in19 who
     let i : (m + a + w * 65536) % 256 ≡ a = omega arith in
     let parts = back_parts (m + a) (2 ^ (8 - get_or ps s 0 % 8) - 2 ^ (8 - get_or ps s 0 % 8 - (length ps - s))) (get_or ps s 0 % 8) s w low (omega arith) (omega arith) ew in
     record {
-      octet = rw i in19;
-      first_small = small;
-      second_small = rw eh (pow_mono {i = 8 + get_or ps s 0 % 8 - s} {j = 15} (omega arith));
-      made = λ b o. rw i (over (get_or o a 0 * f) (get_or o (a + 1) 0 * h) (m + a) w low ∙ under (get_or o a 0 * f) (get_or o (a + 1) 0 * h) m a (times-whole (get_or o a 0) f whole) clear (omega arith) ∙ made o (first o).0 (first o).1);
-      put_back = λ b. entry-back ps s a (get_or ps s 0 % 8) (m + a + w * 65536) l u in19 ends (runs_two ps s rises l run last) octet refl room i parts.0 parts.1 parts.2;
+      made = λ o. rw i (over (get_or o a 0 * f) (get_or o (a + 1) 0 * h) (m + a) w low ∙ under (get_or o a 0 * f) (get_or o (a + 1) 0 * h) m a (times-whole (get_or o a 0) f whole) clear (omega arith) ∙ made o (first o).0 (first o).1);
+      put_back = entry-back ps s a (get_or ps s 0 % 8) (m + a + w * 65536) l u in19 ends (runs_two ps s rises l run last) octet refl room i parts.0 parts.1 parts.2;
     }
   where
     n : ℕ

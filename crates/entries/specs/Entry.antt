@@ -1,6 +1,6 @@
 -- An entry: how two neighbouring octets make the byte of the bits at some places, and how it is put back into them.
 -- Assumes nothing.
-use Rattle.std.specs.Prelude.{◌≡◌, List, [], ◌∷◌, ℕ, suc, ◌+◌, ◌*◌, ◌-◌, ◌/◌, ◌%◌, ◌^◌, ◌≤◌, ◌<◌, length, get_or, set}
+use Rattle.std.specs.Prelude.{◌≡◌, List, [], ◌∷◌, ℕ, suc, ◌+◌, ◌*◌, ◌-◌, ◌/◌, ◌%◌, ◌^◌, ◌<◌, length, get_or, set}
 use Rattle.std.specs.Int.Bits.{bit_and}
 use Rattle.bits.specs.Bit.{bit_at, number, count}
 use Rattle.channel.specs.Coding.{bits_at}
@@ -62,10 +62,7 @@ back o m b = set (set o (m % 256) (first_back (get_or o (m % 256) 0) m b)) (m % 
 abbrev pub BackTo : List ℕ → ℕ → Type 0
 BackTo ps m = (o : List ℕ) (b : ℕ) → length o ≡ 20 → Octets o → b < 256 → back o m b ≡ put_places o ps (bit_at (b ∷ [])) 0
 
--- the bits at some places as a byte from the top, and the byte put back; no claim where f is 1
+-- the bits at some places as a byte from the top, and the byte put back
 pub record EntryBy (ps : List ℕ) (m f h : ℕ) : Type 0 where
-  pub octet : m % 256 < 19
-  pub first_small : f ≤ 32768
-  pub second_small : h ≤ 32768
-  pub made : (f ≡ 1 → ⊥) → (o : List ℕ) → quick o m f h ≡ from_top (bits_at (bit_at o) ps)
-  pub put_back : (f ≡ 1 → ⊥) → BackTo ps m
+  pub made : (o : List ℕ) → quick o m f h ≡ from_top (bits_at (bit_at o) ps)
+  pub put_back : BackTo ps m

@@ -1,4 +1,4 @@
--- A turn of each loop over a list of places: what is left of the list, from what there is so far. A packed field: its ones, and the byte that it tops.
+-- A field packed of bits: its ones, and the byte that it tops.
 -- Assumes nothing.
 use mathlib.Core.Path.{◌≡◌, sym, ◌∙◌}
 use mathlib.Core.Bool.{Bool, true, false}
@@ -6,32 +6,14 @@ use mathlib.Core.List.{List, [], ◌∷◌, ◌++◌}
 use Prim.Native.Nat.{ℕ, zero, suc, ◌+◌, ◌*◌, ◌-◌, ◌/◌, ◌%◌, ◌^◌, ◌<◌, ◌≤◌}
 use native.Mathlib.Omega.{arith}
 use native.Mathlib.Nat.{zero-add, sub-zero, pow-suc, mul_assoc, mul_comm, mod-eq_of_lt, not-suc-le-zero, le_of_suc-le-suc}
-use native.Mathlib.Numerals.{add-one}
 use lib.Count as Count
 use lib.Dec.{eqb}
-use lib.ListN.{length, get_or, take, drop, replicate, length-map, drop_of_length-le}
+use lib.ListN.{length, take, replicate, length-map}
 use lib.Pow.{shl_lt}
-use lib.Seq.{drop-cons}
 use Rattle.bits.specs.Bit.{to_n, number_from, number}
-use Rattle.bits.proofs.BitLaws.{to_n_lt, number_lt}
+use Rattle.bits.proofs.BitLaws.{number_lt}
 use Rattle.channel.specs.Coding.{Word, bits_at, ones, odd}
 use Rattle.channel.specs.Control.{from_top}
-
-module _ (ps : List ℕ) (j : ℕ) where
-  -- a field packed of the places
-  number_turn : (g : Word) (a : ℕ) → j < length ps → number_from a (bits_at g (drop j ps)) ≡ number_from (2 * a + to_n (g (get_or ps j 0))) (bits_at g (drop (j + 1) ps))
-  number_turn g a h = rw (add-one, drop-cons ps j 0 h)
-
-  pub number-end : (g : Word) (a : ℕ) → length ps ≤ j → number_from a (bits_at g (drop j ps)) ≡ a
-  number-end g a h = rw (drop_of_length-le ps h)
-
--- a bit read and put behind the field
-pub number_goes : (g : Word) (ps : List ℕ) (j field : ℕ) (b : Bool) (next : ℕ) → j < length ps → number (bits_at g ps) ≡ number_from field (bits_at g (drop j ps)) → b ≡ g (get_or ps j 0) → next ≡ 2 * field + to_n b
-    → number (bits_at g ps) ≡ number_from next (bits_at g (drop (j + 1) ps))
-number_goes g ps j field b next h so_far read put = rw (put, read) (so_far ∙ number_turn ps j g field h)
-
-pub field_grows : (field j : ℕ) (b : Bool) (next : ℕ) → field < 2 ^ j → next ≡ 2 * field + to_n b → next < 2 ^ (j + 1)
-field_grows field j b next h put = rw (add-one, pow-suc) (omega (arith, to_n_lt b))
 
 -- a bit behind a field: its digits
 bit-last : (a : ℕ) (b : Bool) → Count.ones (2 * a + to_n b) ≡ Count.ones a + to_n b

@@ -1,40 +1,24 @@
 // A frame's bits at lent places as a packed field or a byte, whatever the list.
 #![tactic(auto)]
 
-ghost use Rattle.std.specs.Prelude.{◌≡◌, ◌+◌, ◌*◌, ◌-◌, ◌%◌, ◌^◌, ◌<◌, ◌≤◌, eqb, length, get_or};
+ghost use Rattle.std.specs.Prelude.{◌≡◌, ◌+◌, ◌*◌, ◌-◌, ◌%◌, ◌^◌, ◌≤◌, eqb, length};
 ghost use Rattle.std.specs.Int.Count.{ones};
 ghost use Rattle.bits.specs.Bit.{bit_at, to_n, number};
 ghost use Rattle.channel.specs.Coding.{bits_at};
 ghost use Rattle.channel.specs.Control.{from_top};
 ghost use Rattle.fields.specs.Below.{Below};
 
-// The bit at entry j of the places. The octets are lent here: by value they would be copied for each bit.
-fn bit_at(o: &[u8], places: &[u8], j: usize) -> bool
-    requires { (length o.now ≡ 20) × Below 160 places.now × (j < length places.now) }
-    ensures { result ≡ bit_at o.now (get_or places.now j 0) }
-{
-    let p = places[j] as usize;
-    bits::bit(o, p)
-}
-
-// The bits at the places as a number, the first on top; the octets are lent.
-fn field(o: &[u8], places: &[u8]) -> u32
-    requires { (length o.now ≡ 20) × Below 160 places.now × (length places.now ≤ 8) }
+// The bits at the places as a number, the first on top. (Whoever takes places asks that they lie in a frame: they are constants, or worked out, and the check
+// finds it where one is named or made; a type around them would have to be built, and proved, for each.)
+pub fn packed(o: &[u8; 20], places: &[u8]) -> u32
+    requires { Below 160 places.now × (length places.now ≤ 8) }
     ensures { result ≡ number (bits_at (bit_at o.now) places.now) }
 {
     let mut field: u32 = 0;
-    for j in 0..places.len() {
-        field = with_bit(field, bit_at(o, places, j));
+    for p in places {
+        field = with_bit(field, bits::bit(o, *p as usize));
     }
     field
-}
-
-// The bits at the places as a number, the first on top.
-pub fn packed(o: [u8; 20], places: &[u8]) -> u32
-    requires { Below 160 places.now × (length places.now ≤ 8) }
-    ensures { result ≡ number (bits_at (bit_at o) places.now) }
-{
-    field(&o, places)
 }
 
 // A packed field with one bit more.
@@ -42,7 +26,7 @@ fn with_bit(field: u32, b: bool) -> u32
     requires { field ≤ 65535 }
     ensures { result ≡ 2 * field + to_n b }
 {
-    if b { 2 * field + 1 } else { 2 * field }
+    2 * field + b as u32
 }
 
 // A field of n bits at the top of a byte, above zeros.
@@ -53,21 +37,13 @@ fn padded(field: u32, n: usize) -> u8
     ((field << (8 - n)) % 256) as u8
 }
 
-// The bits at the places in a byte, from the top, the rest zero; the octets are lent.
-pub fn lent_byte(o: &[u8], places: &[u8]) -> u8
-    requires { (length o.now ≡ 20) × Below 160 places.now × (length places.now ≤ 8) }
+// The bits at the places in a byte, from the top, the rest zero.
+pub fn top_byte(o: &[u8; 20], places: &[u8]) -> u8
+    requires { Below 160 places.now × (length places.now ≤ 8) }
     ensures { result ≡ from_top (bits_at (bit_at o.now) places.now) }
 {
-    let field = field(o, places);
+    let field = packed(o, places);
     padded(field, places.len())
-}
-
-// The bits at the places in a byte, from the top, the rest zero.
-pub fn top_byte(o: [u8; 20], places: &[u8]) -> u8
-    requires { Below 160 places.now × (length places.now ≤ 8) }
-    ensures { result ≡ from_top (bits_at (bit_at o) places.now) }
-{
-    lent_byte(&o, places)
 }
 
 // Whether a packed field has an odd number of ones, by the language's own count.

@@ -1,14 +1,15 @@
 // Filling: records from a cursor on into a lent buffer, as many as are asked for, as are there and as fit.
 #![tactic(auto)]
 
-ghost use Rattle.std.specs.Prelude.{◌*◌, ◌≤◌, length};
+ghost use Rattle.std.specs.Prelude.{◌≤◌};
 ghost use Rattle.reading.specs.Paging.{Filled};
-ghost use Rattle.channel.specs.Frames.{capture_of, rules};
+ghost use Rattle.channel.specs.Frames.{rules};
 ghost use Rattle.channel.specs.Record.{record_of};
-ghost use Rattle.dplaces.specs.DPlaces.{Lent};
 ghost use Rattle.item.specs.Item.{cursor_of};
+ghost use Rattle.capture.specs.Capture.{capture_of};
 
-use channel::Terms;
+use capture::Capture;
+use dplaces::PlaceTable;
 use item::Cursor;
 
 // The items and bytes of a page, and the cursor moved on over them.
@@ -22,50 +23,34 @@ pub struct Counted {
 // Fills the buffer with records from the cursor on, each lent the part that begins where the last ended. What the records need besides is made here, for the
 // whole page: as each first frame comes, the plan of its kind and the masks of its CRCs.
 pub fn fill(
-    s: &[u8],
-    n: usize,
-    t: Terms,
+    capture: &Capture<'_>,
     c: Cursor,
     most: u64,
-    table: &[u8],
+    table: Option<PlaceTable>,
     buffer: &mut [u8],
 ) -> Counted
-    requires { Lent table.now × (c.position ≤ n) × (n ≤ 8 * length s.now) × (length s.now ≤ 65536) }
-    ensures { Filled rules record_of (capture_of s.now n t) (cursor_of c) most buffer.old buffer.new result.items result.bytes (cursor_of result.cursor) }
+    requires { c.position ≤ capture.now.bits }
+    ensures { Filled rules record_of (capture_of capture.now) (cursor_of c) most buffer.old buffer.new result.items result.bytes (cursor_of result.cursor) }
 {
-    let mut items: u64 = 0;
-    let mut at: usize = 0;
-    let mut cursor = c;
-    let mut plan = plans::no_plans();
+    let mut page = Counted {
+        items: 0,
+        bytes: 0,
+        cursor: c,
+    };
+    let mut plans = plans::no_plans(table);
     let mut masks = masks::no_masks();
-    while items < most {
-        let p = cursor.position;
-        if n <= p {
-            return Counted {
-                items: items,
-                bytes: at,
-                cursor: cursor,
-            };
+    while page.items < most && page.cursor.position < capture.bits {
+        let i = reader::item_at(capture, page.cursor, &mut masks);
+        let size = record::size(&i);
+        if buffer.len() - page.bytes < size {
+            return page;
         }
-        let i = reader::item_at(s, n, t, cursor, &mut masks);
-        let kind = i.kind;
-        let size = record::size(kind);
-        if buffer.len() - at < size {
-            return Counted {
-                items: items,
-                bytes: at,
-                cursor: cursor,
-            };
-        }
-        record::ready(&mut plan, table, kind);
-        record::put(&mut buffer[at..], i, table, &plan);
-        cursor = cursor.over(i);
-        at += size;
-        items += 1;
+        record::put(&mut buffer[page.bytes..], &i, &mut plans);
+        page = Counted {
+            items: page.items + 1,
+            bytes: page.bytes + size,
+            cursor: page.cursor.over(&i),
+        };
     }
-    Counted {
-        items: items,
-        bytes: at,
-        cursor: cursor,
-    }
+    page
 }

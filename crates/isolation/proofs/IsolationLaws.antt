@@ -9,6 +9,8 @@ use borrow.Author.Tests.{eq-eqb, ne_eqb, eqb-false, ltb-false, le-ltb}
 use lib.Dec.{eqb, ltb}
 use lib.ListN.{length, set, length-set}
 use lib.Seq.{get_or-set_same, get_or-set_other}
+use Rattle.std.specs.Prelude.{is_none}
+use Rattle.std.specs.List.{position}
 use Rattle.sessions.specs.declared.Session.{Session}
 use Rattle.sessions.specs.Sessions.{blank, is_free, holds, held_in, free_at, found_in}
 use Rattle.call.specs.declared.Answer.{Answer}
@@ -20,7 +22,7 @@ use Rattle.serving.specs.declared.Opened.{Opened}
 use Rattle.serving.specs.Serving.{open_refusal, new_session, opened_at, OpenedBy, OpenCall, standing, name_refusal, ClosedBy, CloseCall, request_of, moved_to}
 use Rattle.isolation.specs.Isolation.{Ask, Visit, Turn, mine, other, Happened, Others, visits, asks, Alone}
 use Rattle.isolation.specs.Held.{Holds}
-use Rattle.isolation.proofs.PlaceLaws.{free_le, lowest_is, held-within, name_passed, name-taken}
+use Rattle.isolation.proofs.PlaceLaws.{free_le, none_free, lowest_is, held-within, name_passed, name-taken}
 use Rattle.isolation.proofs.KeepLaws.{call_keeps, page_goes, still-holds}
 
 -- ---- the pages of a session among others are those of one with nobody else there
@@ -99,13 +101,13 @@ module _ (ss : List Session) (key capture direction : ℕ) (a : Opened) (after :
       let (two, e₁) = passed (ltb 32 (length ss)) 2 _ (omega arith) no_number in
       let (one, e₂) = passed (ltb 1 direction) 1 _ (omega arith) e₁ in
       let (nine, e₃) = passed (held_in ss key) 9 _ (omega arith) e₂ in
-      let (eight, _) = passed (eqb (free_at ss) (length ss)) 8 _ (omega arith) e₃ in
+      let (eight, _) = passed (is_none (position is_free ss)) 8 _ (omega arith) e₃ in
       let x = subst (λ (k : ℕ). OpenedBy k ss (new_session key capture direction) a after) no_number call in
       record {
         short = omega (arith, ltb-false 32 (length ss) two);
         way = omega (arith, ltb-false 1 direction one);
         absent = nine;
-        within = let ne = eqb-false (free_at ss) (length ss) eight in omega (arith, free_le ss);
+        within = let ne = eqb-false (free_at ss) (length ss) (sym (none_free ss) ∙ eight) in omega (arith, free_le ss);
         place = ap (λ (o : Opened). o.place) x.0;
         list = x.1;
       }
@@ -155,9 +157,9 @@ isolated key capture direction ys zs opened-y opened-z after-y after-z a b ts us
 pub notices : (key capture direction : ℕ) (ys zs after later : List Session) (a b : Opened) → length ys ≤ 32 → length zs ≤ 32 → held_in ys key ≡ false → held_in zs key ≡ false
     → OpenCall ys key capture direction a after → OpenCall zs key capture direction b later → (a.number ≡ 8 → ⊥) → (b.number ≡ 8 → ⊥) → a.number ≡ b.number
 notices key capture direction ys zs after later a b ly lz hy hz p q na nb =
-    let x : a.number ≡ cond (ltb 1 direction) 1 (cond (eqb (free_at ys) (length ys)) 8 0) = answered ys after a p ∙ rw (le-ltb 32 (length ys) ly, hy) in
-    let y : b.number ≡ cond (ltb 1 direction) 1 (cond (eqb (free_at zs) (length zs)) 8 0) = answered zs later b q ∙ rw (le-ltb 32 (length zs) lz, hz) in
-    go (ltb 1 direction) (eqb (free_at ys) (length ys)) (eqb (free_at zs) (length zs)) x y
+    let x : a.number ≡ cond (ltb 1 direction) 1 (cond (is_none (position is_free ys)) 8 0) = answered ys after a p ∙ rw (le-ltb 32 (length ys) ly, hy) in
+    let y : b.number ≡ cond (ltb 1 direction) 1 (cond (is_none (position is_free zs)) 8 0) = answered zs later b q ∙ rw (le-ltb 32 (length zs) lz, hz) in
+    go (ltb 1 direction) (is_none (position is_free ys)) (is_none (position is_free zs)) x y
   where
     answered : (ss after : List Session) (a : Opened) → OpenCall ss key capture direction a after → a.number ≡ open_refusal (found_in ss key) (length ss) direction
     answered ss after a = by_number (open_refusal (found_in ss key) (length ss) direction)
@@ -184,7 +186,7 @@ freed_first ss after later place key k capture direction a closed below way abse
     let lowest : free_at after ≡ place = lowest_is after place
     (ap is_free (ap (λ (l : List Session). standing l place) e ∙ get_or-set_same ss place blank blank inside))
     (λ i l. ap is_free (ap (λ (m : List Session). standing m i) e ∙ get_or-set_other ss place i blank blank (λ p. omega arith)) ∙ below i l) in
-    let none : open_refusal (found_in after k) (length after) direction ≡ 0 = rw (le-ltb 32 (length after) (omega (arith, long, short)), le-ltb 1 direction way, absent, ne_eqb (free_at after) (length after) (λ p. omega (arith, p, lowest, long, inside))) in
+    let none : open_refusal (found_in after k) (length after) direction ≡ 0 = rw (le-ltb 32 (length after) (omega (arith, long, short)), le-ltb 1 direction way, absent, none_free after ∙ ne_eqb (free_at after) (length after) (λ p. omega (arith, p, lowest, long, inside))) in
     (subst (λ (n : ℕ). OpenedBy n after (new_session k capture direction) a later) none call).0 ∙ ap (opened_at 0) lowest
   where
     freed : (number : ℕ) → name_refusal (standing ss place) (length ss) key ≡ number → ClosedBy number ss place 0 after → (name_refusal (standing ss place) (length ss) key ≡ 0) × (after ≡ set ss place blank)

@@ -3,11 +3,13 @@
 use mathlib.Core.Path.{◌≡◌, refl, sym, ◌∙◌, ap}
 use mathlib.Core.Bool.{Bool, true, false, cond, not, ◌&&◌, ◌||◌}
 use mathlib.Core.List.{List, [], ◌∷◌}
-use Prim.Native.Nat.{ℕ, zero, suc, ◌<◌, ◌≤◌}
+use Prim.Native.Nat.{ℕ, zero, suc, ◌+◌, ◌<◌, ◌≤◌}
 use native.Mathlib.Decide.{dec_lt}
-use native.Mathlib.Nat.{not-suc-le-zero, le_of_suc-le-suc}
 use native.Mathlib.Omega.{arith}
-use borrow.Author.Tests.{eqb-true, le-ltb, ltb-false}
+use borrow.Author.Tests.{eqb-true, eq-eqb, ne_eqb, lt-ltb, le-ltb, ltb-false}
+use Rattle.std.specs.Prelude.{is_none}
+use Rattle.std.specs.List.{position}
+use Rattle.std.proofs.lemmas.List.Sums.{passes_at_first, fails_before_first}
 use lib.Dec.{eqb, ltb}
 use lib.ListN.{length, get_or-eq_default}
 use Rattle.channel.proofs.BoolLaws.{never}
@@ -19,34 +21,32 @@ use Rattle.isolation.specs.Held.{Holds}
 
 -- ---- the lowest free place
 pub free_le : (ss : List Session) → free_at ss ≤ length ss
-unfolding free_at
 free_le [] = omega arith
 free_le (s ∷ ss) = go (is_free s) (free_le ss)
   where
-    go : (f : Bool) → free_at ss ≤ length ss → cond f 0 (suc (free_at ss)) ≤ suc (length ss)
+    go : (f : Bool) → free_at ss ≤ length ss → cond (not f) (1 + free_at ss) 0 ≤ suc (length ss)
     go true l = omega arith
     go false l = omega arith
 
+-- nothing is found free exactly where it is behind the list
+pub none_free : (ss : List Session) → is_none (position is_free ss) ≡ eqb (free_at ss) (length ss)
+none_free ss =
+    elim (dec_lt (free_at ss) (length ss)) [
+      | yes l ↦ rw (lt-ltb (free_at ss) (length ss) l, ne_eqb (free_at ss) (length ss) (λ e. omega arith))
+      | no g ↦ let l : length ss ≤ free_at ss = omega arith in rw (le-ltb (free_at ss) (length ss) l, eq-eqb (free_at ss) (length ss) (omega (arith, free_le ss)))
+    ]
+
 -- it is free; a place outside the list is as a free one
 pub free-is : (ss : List Session) → is_free (standing ss (free_at ss)) ≡ true
-unfolding free_at
-free-is [] = refl
-free-is (s ∷ ss) = go (is_free s) refl (free-is ss)
-  where
-    go : (f : Bool) → is_free s ≡ f → is_free (standing ss (free_at ss)) ≡ true → is_free (standing (s ∷ ss) (cond f 0 (suc (free_at ss)))) ≡ true
-    go true e ih = e
-    go false e ih = ih
+free-is ss =
+    elim (dec_lt (free_at ss) (length ss)) [
+      | yes l ↦ passes_at_first is_free ss blank l
+      | no g ↦ ap is_free (get_or-eq_default {A = Session} ss blank (omega arith))
+    ]
 
 -- and none below it is
 pub taken-below : (ss : List Session) (i : ℕ) → i < free_at ss → is_free (standing ss i) ≡ false
-unfolding free_at
-taken-below [] i l = absurd (not-suc-le-zero l)
-taken-below (s ∷ ss) i l = go i (is_free s) refl (λ j h. taken-below ss j h) l
-  where
-    go : (i : ℕ) (f : Bool) → is_free s ≡ f → ((j : ℕ) → j < free_at ss → is_free (standing ss j) ≡ false) → i < cond f 0 (suc (free_at ss)) → is_free (standing (s ∷ ss) i) ≡ false
-    go i true e ih l = absurd (not-suc-le-zero l)
-    go zero false e ih l = e
-    go (suc i) false e ih l = ih i (le_of_suc-le-suc l)
+taken-below ss i l = fails_before_first is_free ss i blank l
 
 -- no other place is such
 pub lowest_is : (ss : List Session) (place : ℕ) → is_free (standing ss place) ≡ true → ((i : ℕ) → i < place → is_free (standing ss i) ≡ false) → free_at ss ≡ place
@@ -67,7 +67,6 @@ not_full ss i l free = elim (dec_lt i (free_at ss)) [ yes h ↦ absurd (never (s
 
 -- ---- number 9: a taken place has the key
 pub held_at : (ss : List Session) (key i : ℕ) → holds (standing ss i) key ≡ true → held_in ss key ≡ true
-unfolding held_in
 held_at [] key i h = absurd (never (sym h))
 held_at (s ∷ ss) key zero h = rw h
 held_at (s ∷ ss) key (suc i) h = or-true (holds s key) (held_in ss key) (held_at ss key i h)
@@ -77,7 +76,6 @@ held_at (s ∷ ss) key (suc i) h = or-true (holds s key) (held_in ss key) (held_
     or-true false b e = e
 
 pub held_where : (ss : List Session) (key : ℕ) → held_in ss key ≡ true → (i : ℕ) × (i < length ss) × (holds (standing ss i) key ≡ true)
-unfolding held_in
 held_where [] key h = absurd (never (sym h))
 held_where (s ∷ ss) key h = go (holds s key) refl h (held_where ss key)
   where

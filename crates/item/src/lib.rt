@@ -4,28 +4,28 @@
 ghost use Rattle.std.specs.Prelude.{◌≡◌, ◌≤◌};
 ghost use Rattle.reading.specs.Reading.{over};
 ghost use Rattle.channel.specs.Frames.{rules};
-ghost use Rattle.item.specs.Item.{item_of, cursor_of};
+ghost use Rattle.item.specs.Item.{start_of, span_of, item_of, cursor_of};
 
 use channel::Kind;
 
-// What an item is: a frame of a kind, or a gap.
+// A frame: its kind, its first bits, where it starts, the length of its tail, its verdict.
 #[derive(Clone, Copy)]
-pub enum ItemKind {
-    Frame(Kind),
-    Gap,
-}
-
-// An item. The octets are the frame's first bits (zeros for a gap), the length is that of the tail or of the gap, the verdict of a gap is 0.
-#[derive(Clone, Copy)]
-pub struct Item {
-    pub kind: ItemKind,
+pub struct Frame {
+    pub kind: Kind,
     pub octets: [u8; 20],
     pub start: usize,
-    pub length: usize,
+    pub tail: usize,
     pub verdict: u8,
 }
 
-// A cursor: a value that goes in and comes back.
+// An item: a frame or a gap.
+#[derive(Clone, Copy)]
+pub enum Item {
+    Frame(Frame),
+    Gap { start: usize, length: usize },
+}
+
+// A cursor: a value that goes in and comes back. The context is the number, 0 to 5, that the definitions compare and that C gives and gets.
 #[derive(Clone, Copy)]
 pub struct Cursor {
     pub position: usize,
@@ -34,22 +34,18 @@ pub struct Cursor {
 
 impl Cursor {
     // The cursor moved on over one item: position and context.
-    pub fn over(mut self, i: Item) -> Self
-        requires { (i.start ≤ 4294967295) × (i.length ≤ 4294967295) }
-        ensures { cursor_of result ≡ over rules (cursor_of self) (item_of i) }
+    pub fn over(mut self, i: &Item) -> Self
+        requires { (start_of i.now ≤ 4294967295) × (span_of i.now ≤ 4294967295) }
+        ensures { cursor_of result ≡ over rules (cursor_of self) (item_of i.now) }
     {
-        let start = i.start;
-        let length = i.length;
-        let kind = i.kind;
-        let octets = i.octets;
-        match kind {
-            ItemKind::Frame(k) => {
-                self.position = start + kinds::body(k) + length;
-                self.context = verdict::after(octets, k, self.context);
+        match i {
+            Item::Frame(frame) => {
+                self.position = frame.start + kinds::body(frame.kind) + frame.tail;
+                self.context = verdict::after(frame.octets, frame.kind, self.context);
                 self
             }
-            ItemKind::Gap => {
-                self.position = start + length;
+            Item::Gap { start, length } => {
+                self.position = *start + *length;
                 self.context = 0;
                 self
             }

@@ -1,28 +1,24 @@
 -- A record as the code judges it.
 -- Assumes nothing.
-use Rattle.std.specs.Prelude.{◌≡◌, Bool, true, false, List, ℕ, ◌<◌, get_or}
+use Rattle.std.specs.Prelude.{◌≡◌, Bool, true, false, List, ◌++◌, ℕ, Option, Some, None}
 use Rattle.channel.specs.declared.Terms.{Terms}
 use Rattle.channel.specs.Frames.{Frame}
 use Rattle.channel.specs.Sound.{SoundAs, Unsound}
-use Rattle.parse.specs.declared.RecordKind.{RecordKind}
-use Rattle.parse.specs.declared.RecordKind.TheVariants as of
-use Rattle.parse.specs.declared.Record.{Record}
-use Rattle.parse.specs.Parsed.{unsound_record, record_from, frame_by}
+use Rattle.item.specs.declared.Frame as code
+use Rattle.item.specs.Item.{frame_of}
+use Rattle.parse.specs.Parsed.{record_from}
 
--- the first n bytes of two lists are the same, or are not
-abbrev pub SameTo : ℕ → List ℕ → List ℕ → Bool → Type 0
-SameTo n a b true = (j : ℕ) → j < n → get_or a j 0 ≡ get_or b j 0
-SameTo n a b false = ((j : ℕ) → j < n → get_or a j 0 ≡ get_or b j 0) → ⊥
+-- bytes begin with some others, or do not
+abbrev pub BeginsWith : List ℕ → List ℕ → Bool → Type 0
+BeginsWith front bytes true = (rest : List ℕ) × (bytes ≡ front ++ rest)
+BeginsWith front bytes false = (rest : List ℕ) → bytes ≡ front ++ rest → ⊥
 
 -- the record in front of some bytes is sound, that of a frame, or is not
 abbrev pub SoundBy : Terms → List ℕ → Frame → Bool → Type 0
 SoundBy t bytes f true = (rest : List ℕ) × SoundAs t bytes f rest
 SoundBy t bytes f false = Unsound t bytes
 
--- a record judged: by its bytes, that of the frame that it is the sound record of; or unsound
-abbrev pub JudgedBy : Terms → List ℕ → RecordKind → Record → Type 0
-JudgedBy t bytes (of.Frame k) r = (r ≡ record_from bytes) × ((rest : List ℕ) × SoundAs t bytes (frame_by r k) rest)
-JudgedBy t bytes of.Unsound r = (r ≡ unsound_record) × Unsound t bytes
-
-abbrev pub Judged : Terms → List ℕ → Record → Type 0
-Judged t bytes r = JudgedBy t bytes r.kind r
+-- a record judged: the frame by its bytes, whose sound record it is; or none, where it is unsound
+abbrev pub Judged : Terms → List ℕ → Option code.Frame → Type 0
+Judged t bytes (Some f) = (record_from bytes ≡ Some f) × ((rest : List ℕ) × SoundAs t bytes (frame_of f) rest)
+Judged t bytes None = Unsound t bytes

@@ -10,16 +10,7 @@ use channel::{Direction, Kind};
 pub fn number(k: Kind) -> u8
     ensures { result ≡ kind_no k }
 {
-    match k {
-        Kind::Speech => 1,
-        Kind::Data => 2,
-        Kind::Om => 3,
-        Kind::Configuration => 4,
-        Kind::NoSpeech => 5,
-        Kind::Lower => 6,
-        Kind::Amr670 => 7,
-        Kind::Amr740 => 8,
-    }
+    k as u8
 }
 
 // How many bits the body of a kind has.
@@ -27,14 +18,9 @@ pub fn body(k: Kind) -> usize
     ensures { result ≡ body_of k }
 {
     match k {
-        Kind::Speech => 158,
-        Kind::Data => 159,
-        Kind::Om => 159,
-        Kind::Configuration => 158,
-        Kind::NoSpeech => 158,
-        Kind::Lower => 159,
-        Kind::Amr670 => 160,
-        Kind::Amr740 => 160,
+        Kind::Speech | Kind::Configuration | Kind::NoSpeech => 158,
+        Kind::Data | Kind::Om | Kind::Lower => 159,
+        Kind::Amr670 | Kind::Amr740 => 160,
     }
 }
 
@@ -42,26 +28,10 @@ pub fn body(k: Kind) -> usize
 pub fn least_tail(d: Direction, k: Kind) -> usize
     ensures { result ≡ least_tail d k }
 {
-    match d {
-        Direction::Uplink => match k {
-            Kind::Speech => 1,
-            Kind::Data => 1,
-            Kind::Om => 1,
-            Kind::Configuration => 2, // T1 and T2 (house)
-            Kind::NoSpeech => 1,
-            Kind::Lower => 0,
-            Kind::Amr670 => 0,
-            Kind::Amr740 => 0,
-        },
-        Direction::Downlink => match k {
-            Kind::Speech => 0,
-            Kind::Data => 1,
-            Kind::Om => 1,
-            Kind::Configuration => 2, // T1 and T2 in downlink too (house)
-            Kind::NoSpeech => 0,
-            Kind::Lower => 0,
-            Kind::Amr670 => 0,
-            Kind::Amr740 => 0,
-        },
+    match (d, k) {
+        (_, Kind::Configuration) => 2, // T1 and T2, in downlink too (house)
+        (_, Kind::Data | Kind::Om) => 1,
+        (Direction::Uplink, Kind::Speech | Kind::NoSpeech) => 1,
+        _ => 0,
     }
 }

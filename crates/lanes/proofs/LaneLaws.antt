@@ -1,15 +1,22 @@
 -- Octets side by side in one number: what is done to each of them at once, and how they are stored one by one.
 -- Assumes nothing.
 use mathlib.Core.Path.{◌≡◌, refl, ap, ◌∙◌}
-use mathlib.Core.List.{List, [], ◌∷◌, map}
-use Prim.Native.Nat.{ℕ, zero, suc, ◌+◌, ◌*◌, ◌-◌, ◌/◌, ◌%◌, ◌<◌, ◌≤◌}
+use mathlib.Core.Logic.{by_cases}
+use mathlib.Core.List.{List, [], ◌∷◌, ◌++◌, map}
+use Prim.Native.Nat.{ℕ, zero, suc, ◌+◌, ◌*◌, ◌-◌, ◌<◌, ◌≤◌}
 use native.Mathlib.Nat.{add-mul, zero-mul, le_refl}
+use native.Mathlib.Decide.{dec_lt}
 use native.Mathlib.Omega.{arith}
+use borrow.Rule.Slice.PartMut.{put_mid}
 use lib.Bits.{bit_and, and_block}
-use lib.ListN.{length, get_or, set, drop, length-append, length-drop}
-use lib.Seq.{get_or-append-add, get_or-drop}
+use lib.ListN.{length, get_or, get_or-eq_default, take, drop, replicate, set, length-append, length-take, length-drop, length-replicate}
+use lib.Seq.{get_or-append-add, get_or-append_right, get_or-drop}
+use Rattle.std.specs.Int.{w64, to_le_bytes, from_le_bytes}
+use Rattle.std.proofs.lemmas.Nat.{le_bytes_8}
+use Rattle.std.proofs.lemmas.List.{take_at, drop_at, drop-drop, get_or-replicate, get_or-take, get_or_append_left}
+use Rattle.std.proofs.Common.{append_assoc}
 use Rattle.bits.specs.Bit.{count}
-use Rattle.bits.proofs.CountLaws.{length-map-count, map-count-same, fill_step}
+use Rattle.bits.proofs.CountLaws.{length-map-count, get_d_map_count, map-count-split, map-count-same, fill_step}
 use Rattle.lanes.specs.Lanes.{lanes, Eight, FilledTo}
 
 -- a mask of octets takes from each what its octet has
@@ -58,9 +65,54 @@ lanes-short f (suc c) e a h =
     let z : suc c + e ≡ suc (c + e) = omega arith in
     rw z (ap (λ (n : ℕ). n * 256 + f a) (lanes-short f c e (suc a) (λ i l. h i (omega arith))))
 
--- the lowest octet, and those above it
-pub lowest : (f : ℕ → ℕ) (c a w : ℕ) → f a < 256 → w ≡ lanes (map f (count (suc c) a)) → (w % 256 ≡ f a) × (w / 256 ≡ lanes (map f (count c (suc a))))
-lowest f c a w h e = (omega arith, omega arith)
+-- eight octets as a number is read from them
+le_lanes : (xs : List ℕ) → from_le_bytes w64 xs ≡ lanes (map (λ i. get_or xs i 0) (count 8 0))
+le_lanes xs = omega arith
+
+-- octets read to the front of eight zeros
+pub lanes_read : (s ys : List ℕ) (at c : ℕ) → c ≤ 8 → at + c ≤ length s → ys ≡ take (at + c - at) (drop at s)
+    → from_le_bytes w64 (ys ++ drop c (replicate 8 0)) ≡ lanes (map (λ i. get_or s i 0) (count c at))
+lanes_read s ys at c l fits e =
+    let xs = ys ++ drop c (replicate 8 0) in
+    let many : length ys ≡ c = ap length e ∙ simp (length-take, length-drop) (omega arith) in
+    let behind : (i : ℕ) → 0 + c ≤ i → get_or xs i 0 ≡ 0 = λ i h.
+    get_or-append_right ys (drop c (replicate 8 0)) i 0 (omega arith) ∙ get_or-drop c (replicate 8 0) (i - length ys) 0 ∙ zeros (c + (i - length ys)) in
+    let front : (k : ℕ) → k < c → get_or xs (0 + k) 0 ≡ get_or s (at + k) 0 = λ k h.
+    let z : 0 + k ≡ k = omega arith in
+    let in_span : k < at + c - at = omega arith in
+    rw z (get_or_append_left ys (drop c (replicate 8 0)) 0 k (omega arith) ∙ rw e (get_or-take (at + c - at) (drop at s) k 0 in_span ∙ get_or-drop at s k 0)) in
+    let all : c + (8 - c) ≡ 8 = omega arith in
+    le_lanes xs ∙ rw all at (lanes-short (λ i. get_or xs i 0) c (8 - c) 0 behind)
+    ∙ ap lanes (map-count-same (λ i. get_or xs i 0) (λ i. get_or s i 0) c 0 at front)
+  where
+    zeros : (i : ℕ) → get_or (replicate {A = ℕ} 8 0) i 0 ≡ 0
+    zeros i =
+        by_cases (dec_lt i 8)
+        (λ (l : i < 8). get_or-replicate 8 i 0 0 l)
+        (λ (n : ¬ (i < 8)). get_or-eq_default (replicate 8 0) 0 {n = i} (omega (arith, length-replicate {A = ℕ} 8 0)))
+
+-- and as it is written to them
+lanes_written : (f : ℕ → ℕ) (a w : ℕ) → Eight f a w → to_le_bytes w64 w ≡ map f (count 8 a)
+lanes_written f a w e = le_bytes_8 (map f (count 8 a)) w refl small (omega (arith, e.is))
+  where
+    small : (i : ℕ) → get_or (map f (count 8 a)) i 0 < 256
+    small i =
+        by_cases (dec_lt i 8)
+        (λ (l : i < 8). rw (get_d_map_count f 8 a i l) (e.octets (a + i) (omega arith)))
+        (λ (n : ¬ (i < 8)). rw (get_or-eq_default (map f (count 8 a)) 0 {n = i} (omega arith)) (omega arith))
+
+-- c of them stored behind the bytes filled
+pub filled_more : (f : ℕ → ℕ) (n c k w : ℕ) (d xs ys : List ℕ) → c ≤ 8 → k ≡ c → Eight f n w → FilledTo f n d xs → ys ≡ take c (to_le_bytes w64 w)
+    → FilledTo f (n + c) d (put_mid n k xs ys)
+filled_more f n c k w d xs ys l span e so_far stored =
+    let front = map f (count n 0) in
+    let more = map f (count c n) in
+    let all : c + (8 - c) ≡ 8 = omega arith in
+    let split : map f (count 8 n) ≡ more ++ map f (count (8 - c) (n + c)) = rw all at (map-count-split f c (8 - c) n) in
+    let is : ys ≡ more = stored ∙ ap (take c) (lanes_written f n w e ∙ split) ∙ take_at more (map f (count (8 - c) (n + c))) c (length-map-count f c n) in
+    let z : 0 + n ≡ n = omega arith in
+    let joined : map f (count (n + c) 0) ≡ front ++ more = rw z at (map-count-split f n c 0) in
+    rw (span, so_far, is, joined, take_at front (drop n d) n (length-map-count f n 0), drop_at front (drop n d) n (length-map-count f n 0), drop-drop c n d, append_assoc) refl
 
 -- one byte more is filled
 pub filled_next : (f : ℕ → ℕ) (n : ℕ) (d xs : List ℕ) (x : ℕ) → FilledTo f n d xs → x ≡ f n → n < length xs → FilledTo f (n + 1) d (set xs n x)

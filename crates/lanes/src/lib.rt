@@ -1,7 +1,7 @@
 // Eight octets as one number, the first lowest, and the same bit of each of them as a byte.
 #![tactic(auto)]
 
-ghost use Rattle.std.specs.Prelude.{◌≡◌, Bool, List, map, ℕ, ◌+◌, ◌*◌, ◌^◌, ◌<◌, ◌≤◌, length, get_or};
+ghost use Rattle.std.specs.Prelude.{◌≡◌, Bool, List, map, ℕ, ◌+◌, ◌<◌, ◌≤◌, length, get_or};
 ghost use Rattle.bits.specs.Bit.{to_n, number, count};
 ghost use Rattle.bits.specs.Put.{put_in};
 ghost use Rattle.put.specs.Put.{Shows};
@@ -16,24 +16,14 @@ const COPIES: u64 = 0x0804_0201;
 // What the fifth of eight octets weighs: the first four stand below it.
 const HALF: u64 = 0x1_0000_0000;
 
-// A number with an octet put below it.
-fn above(w: u64, x: u8) -> u64
-    requires { w < 2 ^ 56 }
-    ensures { result ≡ w * 256 + x }
-{
-    w * 256 + x as u64
-}
-
-// The c octets from one on as a number, the first lowest: where they are eight, a processor reads them at once.
+// The c octets from one on as a number, the first lowest; behind them, where they are fewer than eight, stand zeros.
 pub fn load(s: &[u8], at: usize, c: usize) -> u64
     requires { (at + c ≤ length s.now) × (c ≤ 8) }
     ensures { result ≡ lanes (map (λ i. get_or s.now i 0) (count c at)) }
 {
-    let mut w = 0u64;
-    for j in 0..c {
-        w = above(w, s[at + (c - 1 - j)]);
-    }
-    w
+    let mut octets = [0u8; 8];
+    octets[..c].copy_from_slice(&s[at..at + c]);
+    u64::from_le_bytes(octets)
 }
 
 // The c octets from one on made those of a number.
@@ -41,11 +31,7 @@ pub fn store(s: &mut [u8], at: usize, c: usize, w: u64)
     requires { (at + c ≤ length s.old) × (c ≤ 8) }
     ensures { (f : ℕ → ℕ) (d : List ℕ) → Eight f at w → FilledTo f at d s.old → FilledTo f (at + c) d s.new }
 {
-    let mut left = w;
-    for j in 0..c {
-        s[at + j] = (left % 256) as u8;
-        left = left / 256;
-    }
+    s[at..at + c].copy_from_slice(&w.to_le_bytes()[..c]);
 }
 
 // Bit d of each of eight octets as a byte, the first octet's on top. The bits of the last four octets are folded in below those of the first four. Copies of

@@ -1,50 +1,52 @@
-// The text of one line of the listing, put into a lent buffer.
+// The text of one line of the listing, put behind a text.
 #![tactic(auto)]
 
-ghost use Rattle.std.specs.Prelude.{◌∷◌, [], ◌+◌, ◌≤◌, length};
-ghost use Rattle.text.specs.Text.{decimal_of, Put};
+ghost use Rattle.std.specs.Prelude.{◌≡◌, ◌∷◌, [], ◌++◌, ◌+◌, ◌≤◌, length};
+ghost use Rattle.text.specs.Text.{decimal_of};
 ghost use Rattle.line.specs.Line.{spaced, refusal_line};
 
+use text::Text;
+
 // Puts a space and a number in decimal there.
-fn put_number(out: &mut [u8], at: usize, n: u64) -> usize
-    requires { at + 21 ≤ length out.old }
-    ensures upper_bound { result ≤ at + 21 }
-    ensures put { Put out.old at (32 ∷ decimal_of n) out.new result }
+fn put_number<const N: usize>(text: &mut Text<N>, n: u64)
+    requires { length text.old + 21 ≤ N }
+    ensures upper_bound { length text.new ≤ length text.old + 21 }
+    ensures put { text.new ≡ text.old ++ 32 ∷ decimal_of n }
 {
-    let from = text::put(out, at, b" ");
-    text::put_decimal(out, from, n)
+    text.put(b" ");
+    text.put_decimal(n);
 }
 
-// Puts the line of a refusal in front, and answers where it ends.
-pub fn put_refusal(out: &mut [u8], number: u64) -> usize
-    requires { 86 ≤ length out.old }
-    ensures { Put out.old 0 (refusal_line number) out.new result }
+// Puts the line of a refusal there. (Of this and the next two the check finds each step; one function over a list of numbers would need an invariant.)
+pub fn put_refusal<const N: usize>(text: &mut Text<N>, number: u64)
+    requires { length text.old + 86 ≤ N }
+    ensures { text.new ≡ text.old ++ refusal_line number }
 {
-    let end = text::put(out, 0, b"R");
-    let end = put_number(out, end, number);
-    text::put(out, end, b"\n")
+    text.put(b"R");
+    put_number(text, number);
+    text.put(b"\n");
 }
 
-// Puts the line of a gap at a place, and answers where it ends.
-pub fn put_gap(out: &mut [u8], at: usize, start: u64, span: u64) -> usize
-    requires { at + 86 ≤ length out.old }
-    ensures { Put out.old at (71 ∷ spaced (start ∷ span ∷ [])) out.new result }
+// Puts the line of a gap there.
+pub fn put_gap<const N: usize>(text: &mut Text<N>, start: u64, span: u64)
+    requires { length text.old + 86 ≤ N }
+    ensures { text.new ≡ text.old ++ 71 ∷ spaced (start ∷ span ∷ []) }
 {
-    let end = text::put(out, at, b"G");
-    let end = put_number(out, end, start);
-    let end = put_number(out, end, span);
-    text::put(out, end, b"\n")
+    text.put(b"G");
+    put_number(text, start);
+    put_number(text, span);
+    text.put(b"\n");
 }
 
 // Puts the line of a frame there.
-pub fn put_frame(out: &mut [u8], at: usize, kind: u8, start: u64, tail: u64, verdict: u8) -> usize
-    requires { at + 86 ≤ length out.old }
-    ensures { Put out.old at (70 ∷ spaced (kind ∷ start ∷ tail ∷ verdict ∷ [])) out.new result }
+pub fn put_frame<const N: usize>(text: &mut Text<N>, kind: u8, start: u64, tail: u64, verdict: u8)
+    requires { length text.old + 86 ≤ N }
+    ensures { text.new ≡ text.old ++ 70 ∷ spaced (kind ∷ start ∷ tail ∷ verdict ∷ []) }
 {
-    let end = text::put(out, at, b"F");
-    let end = put_number(out, end, kind as u64);
-    let end = put_number(out, end, start);
-    let end = put_number(out, end, tail);
-    let end = put_number(out, end, verdict as u64);
-    text::put(out, end, b"\n")
+    text.put(b"F");
+    put_number(text, kind as u64);
+    put_number(text, start);
+    put_number(text, tail);
+    put_number(text, verdict as u64);
+    text.put(b"\n");
 }

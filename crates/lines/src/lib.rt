@@ -1,10 +1,13 @@
-// The lines of a page: its records taken apart, one after the other, and the line of each put into a lent buffer.
+// The lines of a page: its records taken apart, one after the other, and the line of each put behind a text.
 #![tactic(auto)]
 
 ghost use Rattle.std.specs.Prelude.{◌≡◌, ◌+◌, ◌≤◌, ◌<◌, length, get_or};
 ghost use Rattle.lines.specs.Lines.{sizes, Recorded, Lined, Records, AllLined};
 
+use text::Text;
+
 // The sizes of records by their kinds, a gap first.
+// Crate `record` has them by a frame's kind; here a byte is given, and `parse` makes a kind of one for itself alone.
 const SIZES: [usize; 9] = [9, 26, 28, 27, 28, 28, 28, 30, 31];
 
 // The size of a record by its first byte, the kind.
@@ -15,31 +18,30 @@ fn size(kind: u8) -> usize
     SIZES[kind as usize]
 }
 
-// Puts the line of the item that a record is of at a place, and answers where it ends.
-fn put_line(out: &mut [u8], at: usize, bytes: &[u8]) -> usize
-    requires { Recorded bytes.now × (at + 86 ≤ length out.old) }
-    ensures { Lined bytes.now out.old at out.new result }
+// Puts the line of the item that a record is of behind a text.
+fn put_line<const N: usize>(text: &mut Text<N>, bytes: &[u8])
+    requires { Recorded bytes.now × (length text.old + 86 ≤ N) }
+    ensures { Lined bytes.now text.old text.new }
 {
     let kind = bytes[0];
     let start = numbers::number_at(bytes, 1);
     let span = numbers::number_at(bytes, 5);
     if kind == 0 {
-        return line::put_gap(out, at, start, span);
+        return line::put_gap(text, start, span);
     }
-    line::put_frame(out, at, kind, start, span, bytes[11])
+    let verdict = bytes[11];
+    line::put_frame(text, kind, start, span, verdict);
 }
 
-// Puts the line of each record of a page, in order, at a place, and answers where the last ends.
-pub fn put_lines(out: &mut [u8], at: usize, page: &[u8]) -> usize
-    requires { Records page.now at (length out.old) }
-    ensures { AllLined page.now out.old at out.new result }
+// Puts the line of each record of a page, in order, behind a text.
+pub fn put_lines<const N: usize>(text: &mut Text<N>, page: &[u8])
+    requires { Records page.now (length text.old) N }
+    ensures { AllLined page.now text.old text.new }
 {
-    let mut from: usize = 0;
-    let mut end = at;
-    while from < page.len() {
-        let behind = from + size(page[from]);
-        end = put_line(out, end, &page[from..behind]);
-        from = behind;
+    let mut rest = page;
+    while let Some(kind) = rest.first() {
+        let (record, more) = rest.split_at(size(*kind));
+        put_line(text, record);
+        rest = more;
     }
-    end
 }

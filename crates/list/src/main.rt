@@ -5,8 +5,10 @@ ghost use Rattle.std.specs.Prelude.{◌≤◌, IfOk, length};
 
 use std::io;
 use std::io::Read;
+use text::Text;
 
-// Reads until the buffer is full or the input ends, and answers how many bytes were read.
+// Reads until the buffer is full or the input ends, and answers how many bytes were read. Of std's methods `read_exact` refuses a short input, and
+// `read_to_end` allocates.
 fn read_full<R: Read>(reader: &mut R, input: &mut [u8]) -> io::Result<usize>
     ensures { IfOk result (λ got. got ≤ length input.new) }
 {
@@ -25,7 +27,7 @@ fn read_full<R: Read>(reader: &mut R, input: &mut [u8]) -> io::Result<usize>
 fn main(rt: HostRuntime) -> io::Result<()> {
     let mut input = [0u8; 65538];
     let got = read_full(&mut rt.stdin(), &mut input)?;
-    let mut text = [0u8; 524544];
-    let end = listing::listing(&input[..got], &mut text);
-    rt.write_all(&text[..end])
+    let mut text = Text::<524544>::new();
+    listing::listing(&input[..got], &mut text);
+    rt.write_all(text.bytes())
 }

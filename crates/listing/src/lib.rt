@@ -1,25 +1,26 @@
-// The listing of some input as one text, put into a lent buffer page by page.
+// The listing of some input as one text, put together page by page.
 #![tactic(auto)]
 
-ghost use Rattle.std.specs.Prelude.{◌≡◌, ◌≤◌, ◌<◌, length, get_or};
+ghost use Rattle.std.specs.Prelude.{◌+◌, ◌≤◌, length};
 ghost use Rattle.listing.specs.Listing.{Text, Listing, Listed};
 
-use call::{CursorNumbers, PageRequest, TermNumbers};
+use call::{CursorNumbers, PageRequest, Refusal, TermNumbers};
 
-// Puts a line for each item of a capture, asking for each page with the cursor that the last answered, or the line of the refusal alone. Answers where the
-// text ends. The buffer has as many bytes as a capture may have bits, and 256 more: that is enough for every reading.
-fn list(capture: &[u8], direction: u8, out: &mut [u8]) -> usize
-    requires { (length capture.now ≤ 65538) × (524544 ≤ length out.old) }
-    ensures { Listed (Text capture.now direction) out.old out.new result }
+// Puts a line for each item of a capture behind a text, asking for each page with the cursor that the last answered, or the line of the refusal alone. There is
+// room for as many bytes as a capture may have bits, and 256 more: that is enough for every reading. (No count ends the loop: each request
+// needs the cursor last answered.)
+fn list<const N: usize>(capture: &[u8], direction: u8, text: &mut text::Text<N>)
+    requires { (length capture.now ≤ 65538) × (length text.old + 524544 ≤ N) }
+    ensures { Listed (Text capture.now direction) text.old text.new }
 {
     let n = 8 * capture.len() as u64;
-    let table = dplaces::table();
+    let table = Some(dplaces::table());
     let mut buffer = [0u8; 4096];
     let mut cursor = CursorNumbers {
         position: 0,
         context: 0,
     };
-    let mut end: usize = 0;
+    let begins = text.len();
     loop {
         let answer = paging::page(
             capture,
@@ -32,36 +33,29 @@ fn list(capture: &[u8], direction: u8, out: &mut [u8]) -> usize
                 cursor: cursor,
                 most: 4096,
             },
-            &table,
+            table,
             &mut buffer,
         );
         if answer.number != 0 {
-            return line::put_refusal(out, answer.number);
+            text.truncate(begins);
+            return line::put_refusal(text, answer.number);
         }
-        end = lines::put_lines(out, end, &buffer[..answer.bytes as usize]);
+        lines::put_lines(text, &buffer[..answer.bytes as usize]);
         if n <= answer.position {
-            return end;
+            return;
         }
         cursor = answer.next();
     }
 }
 
-// The direction: the first byte of the input.
-fn direction_of(input: &[u8]) -> u8
-    requires { 0 < length input.now }
-    ensures { result ≡ get_or input.now 0 0 }
+// Puts the listing of some input, one byte of direction and then the capture, behind a text. Input without a direction byte is refused with 1, as a direction
+// above 1 is.
+pub fn listing<const N: usize>(input: &[u8], text: &mut text::Text<N>)
+    requires { (length input.now ≤ 65538) × (length text.old + 524544 ≤ N) }
+    ensures { Listed (Listing input.now) text.old text.new }
 {
-    input[0]
-}
-
-// Puts the listing of some input, one byte of direction and then the capture, and answers where its text ends. Input without a direction byte is refused
-// with 1, as a direction above 1 is.
-pub fn listing(input: &[u8], out: &mut [u8]) -> usize
-    requires { (length input.now ≤ 65538) × (524544 ≤ length out.old) }
-    ensures { Listed (Listing input.now) out.old out.new result }
-{
-    if input.len() == 0 {
-        return line::put_refusal(out, 1);
+    match input {
+        [] => line::put_refusal(text, Refusal::NotARequest.number()),
+        [direction, capture @ ..] => list(capture, *direction, text),
     }
-    list(&input[1..], direction_of(input), out)
 }

@@ -2,7 +2,7 @@
 // definitions of `channel` is proved where its masks are made.
 
 // What kind 1's CRC covers, and CRC2..CRC0.
-pub const SPEECH_CRC: [u8; 47] = [
+pub static SPEECH_CRC: [u8; 47] = [
     22, // D1
     23, // D2
     25, // D3
@@ -53,7 +53,7 @@ pub const SPEECH_CRC: [u8; 47] = [
 ];
 
 // What CRC1 of kind 6 in mode 4,75 covers, and the CRC.
-pub const LOWER_475_CRC1: [u8; 39] = [
+pub static LOWER_475_CRC1: [u8; 39] = [
     17, // C1
     18, // C2
     19, // C3
@@ -96,7 +96,7 @@ pub const LOWER_475_CRC1: [u8; 39] = [
 ];
 
 // What CRC2 of kind 6 in mode 4,75 covers, and the CRC.
-pub const LOWER_475_CRC2: [u8; 10] = [
+pub static LOWER_475_CRC2: [u8; 10] = [
     77, // D55
     78, // D56
     79, // D57
@@ -110,7 +110,7 @@ pub const LOWER_475_CRC2: [u8; 10] = [
 ];
 
 // What CRC3 of kind 6 in mode 4,75 covers, and the CRC.
-pub const LOWER_475_CRC3: [u8; 9] = [
+pub static LOWER_475_CRC3: [u8; 9] = [
     101, // D76
     102, // D77
     121, // D93
@@ -123,7 +123,7 @@ pub const LOWER_475_CRC3: [u8; 9] = [
 ];
 
 // What CRC4 of kind 6 in mode 4,75 covers, and the CRC.
-pub const LOWER_475_CRC4: [u8; 5] = [
+pub static LOWER_475_CRC4: [u8; 5] = [
     129, // D100
     130, // D101
     143, // D113
@@ -132,7 +132,7 @@ pub const LOWER_475_CRC4: [u8; 5] = [
 ];
 
 // What CRC1 of kind 6 in mode 5,15 covers, and the CRC.
-pub const LOWER_515_CRC1: [u8; 40] = [
+pub static LOWER_515_CRC1: [u8; 40] = [
     17, // C1
     18, // C2
     19, // C3
@@ -176,7 +176,7 @@ pub const LOWER_515_CRC1: [u8; 40] = [
 ];
 
 // What CRC2 of kind 6 in mode 5,15 covers, and the CRC.
-pub const LOWER_515_CRC2: [u8; 15] = [
+pub static LOWER_515_CRC2: [u8; 15] = [
     77, // D55
     78, // D56
     79, // D57
@@ -195,7 +195,7 @@ pub const LOWER_515_CRC2: [u8; 15] = [
 ];
 
 // What CRC3 of kind 6 in mode 5,15 covers, and the CRC.
-pub const LOWER_515_CRC3: [u8; 10] = [
+pub static LOWER_515_CRC3: [u8; 10] = [
     108, // D82
     109, // D83
     124, // D96
@@ -209,7 +209,7 @@ pub const LOWER_515_CRC3: [u8; 10] = [
 ];
 
 // What CRC4 of kind 6 in mode 5,15 covers, and the CRC.
-pub const LOWER_515_CRC4: [u8; 10] = [
+pub static LOWER_515_CRC4: [u8; 10] = [
     133, // D104
     134, // D105
     149, // D118
@@ -223,7 +223,7 @@ pub const LOWER_515_CRC4: [u8; 10] = [
 ];
 
 // What CRC1 of kind 6 in mode 5,90 covers, and the CRC.
-pub const LOWER_590_CRC1: [u8; 37] = [
+pub static LOWER_590_CRC1: [u8; 37] = [
     17, // C1
     18, // C2
     19, // C3
@@ -264,7 +264,7 @@ pub const LOWER_590_CRC1: [u8; 37] = [
 ];
 
 // What kind 7's CRC1 covers, and the CRC.
-pub const AMR670_CRC1: [u8; 38] = [
+pub static AMR670_CRC1: [u8; 38] = [
     17, // C1
     18, // C2
     19, // C3
@@ -306,7 +306,7 @@ pub const AMR670_CRC1: [u8; 38] = [
 ];
 
 // What kind 8's CRC1 covers, and the CRC.
-pub const AMR740_CRC1: [u8; 40] = [
+pub static AMR740_CRC1: [u8; 40] = [
     17, // C1
     18, // C2
     19, // C3
@@ -350,7 +350,7 @@ pub const AMR740_CRC1: [u8; 40] = [
 ];
 
 // What CRC1 of kind 5 covers, in the classes that carry it, and the CRC.
-pub const NO_SPEECH_CRC1: [u8; 59] = [
+pub static NO_SPEECH_CRC1: [u8; 59] = [
     17, // C1 of kind 5
     18, // C2 of kind 5
     19, // C3 of kind 5

@@ -3,81 +3,114 @@
 
 pub mod covered;
 
-ghost use Rattle.std.specs.Prelude.{◌≡◌, [], ◌≤◌, ◌<◌, get_or};
+ghost use Rattle.std.specs.Prelude.{◌≡◌, None, IsSome, get_or};
 ghost use Rattle.fields.specs.Below.{Below};
-ghost use Rattle.masks.specs.Kept.{covered, Kept, More};
+ghost use Rattle.crc.specs.Taps.{MasksOf};
+ghost use Rattle.masks.specs.Kept.{number, places_of, Kept, Kept-prop, More};
 
-// Numbers for the masks of the thirteen lists, none of them worked out.
-pub fn no_masks() -> [u64; 130]
-    ensures { Kept result }
-{
-    [0u64; 130]
+use crc::Taps;
+
+// The lists that CRCs cover: kind 1's, kind 6's by mode and CRC, those of kinds 7 and 8, kind 5's.
+#[derive(Clone, Copy)]
+pub enum CoveredList {
+    Speech,
+    Lower475Crc1,
+    Lower475Crc2,
+    Lower475Crc3,
+    Lower475Crc4,
+    Lower515Crc1,
+    Lower515Crc2,
+    Lower515Crc3,
+    Lower515Crc4,
+    Lower590,
+    Amr670,
+    Amr740,
+    NoSpeech,
 }
 
-// Works out the masks of list i, and marks them.
-fn put_masks(m: &mut [u64], i: usize, places: &[u8])
-    requires { (i < 13) × Kept m.old × (places.now ≡ get_or covered i []) × Below 160 places.now }
-    ensures { More i m.old m.new }
+// The lists of a kind 6 in a mode that has four CRCs, CRC1 first.
+pub static LOWER_475: [CoveredList; 4] = [
+    CoveredList::Lower475Crc1,
+    CoveredList::Lower475Crc2,
+    CoveredList::Lower475Crc3,
+    CoveredList::Lower475Crc4,
+];
+
+pub static LOWER_515: [CoveredList; 4] = [
+    CoveredList::Lower515Crc1,
+    CoveredList::Lower515Crc2,
+    CoveredList::Lower515Crc3,
+    CoveredList::Lower515Crc4,
+];
+
+// A list's number, in the order of `CoveredList`.
+fn number(list: CoveredList) -> usize
+    ensures { result ≡ number list }
 {
-    let masks = crc::masks_of(places);
-    let at = 10 * i;
-    for j in 0..9 {
-        m[at + j] = masks[j];
+    list as usize
+}
+
+// The places of a list.
+fn places(list: CoveredList) -> &'static [u8]
+    ensures { (result.now ≡ places_of list) × Below 160 result.now }
+{
+    match list {
+        CoveredList::Speech => &covered::SPEECH_CRC,
+        CoveredList::Lower475Crc1 => &covered::LOWER_475_CRC1,
+        CoveredList::Lower475Crc2 => &covered::LOWER_475_CRC2,
+        CoveredList::Lower475Crc3 => &covered::LOWER_475_CRC3,
+        CoveredList::Lower475Crc4 => &covered::LOWER_475_CRC4,
+        CoveredList::Lower515Crc1 => &covered::LOWER_515_CRC1,
+        CoveredList::Lower515Crc2 => &covered::LOWER_515_CRC2,
+        CoveredList::Lower515Crc3 => &covered::LOWER_515_CRC3,
+        CoveredList::Lower515Crc4 => &covered::LOWER_515_CRC4,
+        CoveredList::Lower590 => &covered::LOWER_590_CRC1,
+        CoveredList::Amr670 => &covered::AMR670_CRC1,
+        CoveredList::Amr740 => &covered::AMR740_CRC1,
+        CoveredList::NoSpeech => &covered::NO_SPEECH_CRC1,
     }
-    m[at + 9] = 1;
 }
 
-// Works out the masks of list i, one of kind 6 in mode 4,75. A constant array is built where it is named, so each list is named in its own arm.
-fn make_475(m: &mut [u64], i: usize)
-    requires { (1 ≤ i) × (i < 5) × Kept m.old }
-    ensures { More i m.old m.new }
+// The masks of the lists of which a frame came.
+#[derive(Drop)]
+pub struct Masks {
+    lists: [Option<Taps>; 13],
+    ghost kept: { Kept lists } by { Kept-prop lists },
+}
+
+// Masks of no list.
+pub fn no_masks() -> Masks {
+    Masks { lists: [None; 13] }
+}
+
+// The masks of a list, worked out from its places.
+#[cold]
+#[inline(never)]
+fn made(list: CoveredList) -> Taps
+    ensures { MasksOf (places_of list) result }
 {
-    match i {
-        1 => put_masks(m, 1, &covered::LOWER_475_CRC1),
-        2 => put_masks(m, 2, &covered::LOWER_475_CRC2),
-        3 => put_masks(m, 3, &covered::LOWER_475_CRC3),
-        _ => put_masks(m, 4, &covered::LOWER_475_CRC4),
+    crc::masks_of(places(list))
+}
+
+impl Masks {
+    // The masks of a list are worked out, unless they are there.
+    pub fn make(&mut self, list: CoveredList)
+        ensures { More (number list) self.old.lists self.new.lists }
+    {
+        let i = number(list);
+        if self.lists[i].is_none() {
+            self.lists[i] = Some(made(list));
+        }
     }
-}
 
-// Works out the masks of list i, one of kind 6 in mode 5,15.
-fn make_515(m: &mut [u64], i: usize)
-    requires { (5 ≤ i) × (i < 9) × Kept m.old }
-    ensures { More i m.old m.new }
-{
-    match i {
-        5 => put_masks(m, 5, &covered::LOWER_515_CRC1),
-        6 => put_masks(m, 6, &covered::LOWER_515_CRC2),
-        7 => put_masks(m, 7, &covered::LOWER_515_CRC3),
-        _ => put_masks(m, 8, &covered::LOWER_515_CRC4),
-    }
-}
-
-// Works out the masks of list i, one that has only a CRC1: of kind 6 in mode 5,90, or of kind 7, 8 or 5.
-fn make_lone(m: &mut [u64], i: usize)
-    requires { (9 ≤ i) × (i < 13) × Kept m.old }
-    ensures { More i m.old m.new }
-{
-    match i {
-        9 => put_masks(m, 9, &covered::LOWER_590_CRC1),
-        10 => put_masks(m, 10, &covered::AMR670_CRC1),
-        11 => put_masks(m, 11, &covered::AMR740_CRC1),
-        _ => put_masks(m, 12, &covered::NO_SPEECH_CRC1),
-    }
-}
-
-// Works out the masks of list i. In parts, since one function of thirteen arms took longer to check.
-pub fn make(m: &mut [u64], i: usize)
-    requires { (i < 13) × Kept m.old }
-    ensures { More i m.old m.new }
-{
-    if i == 0 {
-        put_masks(m, 0, &covered::SPEECH_CRC)
-    } else if i < 5 {
-        make_475(m, i)
-    } else if i < 9 {
-        make_515(m, i)
-    } else {
-        make_lone(m, i)
+    // The masks of a list, which are there.
+    pub fn of(&self, list: CoveredList) -> &Taps
+        requires { IsSome (get_or self.now.lists (number list) None) }
+        ensures { MasksOf (places_of list) result.now }
+    {
+        match &self.lists[number(list)] {
+            Some(taps) => taps,
+            None => unreachable!(),
+        }
     }
 }

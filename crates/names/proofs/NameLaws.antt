@@ -3,17 +3,15 @@
 use mathlib.Core.Path.{◌≡◌, refl}
 use mathlib.Core.Bool.{Bool, true, false, cond}
 use mathlib.Core.List.{List, [], ◌∷◌, ◌++◌}
-use Prim.Native.Nat.{ℕ, zero, suc, ◌+◌, ◌*◌, ◌≤◌}
-use native.Mathlib.Numerals.{add-one}
+use Prim.Native.Nat.{ℕ, zero, suc, ◌+◌, ◌*◌}
 use native.Mathlib.Omega.{arith}
 use lib.Dec.{ltb}
-use lib.ListN.{length, take, drop, length-append, length-take, length-drop}
+use lib.ListN.{length, take, drop, length-append, length-drop}
 use lib.Seq.{take_all}
 use Rattle.channel.specs.declared.Kind.{Kind}
-use Rattle.text.specs.Text.{Put}
-use Rattle.text.proofs.TextLaws.{put-put}
 use Rattle.cells.specs.declared.Cell.{Cell}
-use Rattle.cells.specs.declared.Cell.TheVariants.{Zero, One, C, Xc, Crc, D, Prime, T, Tail, Nothing}
+use Rattle.cells.specs.declared.Cell.TheVariants.{Zero, One, C, Xc, Crc, D, Prime, T, Tail}
+use Rattle.std.specs.Prelude.{Option, None, Some}
 use Rattle.cells.specs.Cells.{cell_of}
 use Rattle.names.specs.Names.{lettered_of, name_of, names_of, octet_of}
 
@@ -26,18 +24,18 @@ pub lettered-long : (first second n : ℕ) → length (lettered_of first second 
 unfolding lettered_of
 lettered-long first second n = either (ltb n 10) _ _ refl (either (ltb n 100) _ _ refl refl)
 
-pub name-long : (c : Cell) → length (name_of c) ≡ 5
+pub name-long : (c : Option Cell) → length (name_of c) ≡ 5
 unfolding name_of
-name-long Zero = refl
-name-long One = refl
-name-long (C n) = lettered-long 32 67 n
-name-long (Xc n) = lettered-long 88 67 n
-name-long (Crc n) = refl
-name-long (D n) = lettered-long 32 68 n
-name-long (Prime n) = lettered-long 68 39 n
-name-long (T n) = lettered-long 32 84 n
-name-long Tail = refl
-name-long Nothing = refl
+name-long (Some Zero) = refl
+name-long (Some One) = refl
+name-long (Some (C n)) = lettered-long 32 67 n
+name-long (Some (Xc n)) = lettered-long 88 67 n
+name-long (Some (Crc n)) = refl
+name-long (Some (D n)) = lettered-long 32 68 n
+name-long (Some (Prime n)) = lettered-long 68 39 n
+name-long (Some (T n)) = lettered-long 32 84 n
+name-long (Some Tail) = refl
+name-long None = refl
 
 -- the names of an octet's first bits
 pub names_long : (k : Kind) (octet i : ℕ) → length (names_of k octet i) ≡ 5 * i
@@ -54,16 +52,6 @@ octet-long k octet =
     omega
     (arith, length-append (drop 3 (lettered_of 32 32 (octet + 1)) ++ names_of k octet 8) (10 ∷ []), length-append (drop 3 (lettered_of 32 32 (octet + 1))) (names_of k octet 8), number-long octet, names_long k octet 8)
 
--- two columns at most
-pub two_columns : (bytes : List ℕ) → length (take 2 bytes) ≤ 2
-two_columns bytes = omega (arith, length-take 2 bytes)
-
--- the number of an octet is put, of which two columns are wanted
-pub number_put : {before after number : List ℕ} {at end : ℕ} (octet : ℕ) → number ≡ lettered_of 32 32 (octet + 1) → Put before at (take 2 (drop 3 number)) after end
-    → Put before at (drop 3 (lettered_of 32 32 (octet + 1))) after end
-number_put octet e p = rw (e, take_all 2 (drop 3 (lettered_of 32 32 (octet + 1))) (omega (arith, number-long octet))) at p
-
--- one name more
-pub names_next : {before out after called : List ℕ} {at m end : ℕ} (k : Kind) (octet i : ℕ) → Put before at (names_of k octet i) out m → called ≡ name_of (cell_of k (8 * octet + i))
-    → Put out m called after end → Put before at (names_of k octet (i + 1)) after end
-names_next k octet i p e q = rw add-one (put-put p (rw e at q))
+-- the number of an octet, of which two columns are put
+pub number_put : (octet : ℕ) → take 2 (drop 3 (lettered_of 32 32 (octet + 1))) ≡ drop 3 (lettered_of 32 32 (octet + 1))
+number_put octet = take_all 2 (drop 3 (lettered_of 32 32 (octet + 1))) (omega (arith, number-long octet))

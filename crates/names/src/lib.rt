@@ -1,15 +1,15 @@
 // The names of a frame's bits as text, and the line of an octet.
 #![tactic(auto)]
 
-ghost use Rattle.std.specs.Prelude.{◌≡◌, ◌+◌, ◌≤◌, ◌<◌, length};
-ghost use Rattle.text.specs.Text.{Put};
+ghost use Rattle.std.specs.Prelude.{◌≡◌, ◌++◌, ◌+◌, ◌≤◌, ◌<◌, length};
 ghost use Rattle.names.specs.Names.{lettered_of, name_of, octet_of};
 
 use cells::Cell;
 use channel::Kind;
-use text::digit;
+use text::{Text, digit};
 
 // Two letters and a number below 1,000, flush right in five columns.
+#[tactic(auto, unfolding(crate::specs::Names::lettered_of))]
 fn lettered(first: u8, second: u8, n: usize) -> [u8; 5]
     ensures { result ≡ lettered_of first second n }
 {
@@ -29,34 +29,37 @@ fn lettered(first: u8, second: u8, n: usize) -> [u8; 5]
     ]
 }
 
-// What a bit is called, flush right in five columns.
-fn name(c: Cell) -> [u8; 5]
+// What a bit is called, flush right in five columns, or a dash for a bit that nothing names.
+#[tactic(auto, unfolding(crate::specs::Names::name_of))]
+fn name(c: Option<Cell>) -> [u8; 5]
     ensures { result ≡ name_of c }
 {
+    let Some(c) = c else {
+        return *b"    -";
+    };
     match c {
-        Cell::Zero => [b' ', b' ', b' ', b' ', b'0'],
-        Cell::One => [b' ', b' ', b' ', b' ', b'1'],
+        Cell::Zero => *b"    0",
+        Cell::One => *b"    1",
         Cell::C(n) => lettered(b' ', b'C', n),
         Cell::Xc(n) => lettered(b'X', b'C', n),
         Cell::Crc(n) => [b' ', b'C', b'R', b'C', digit(n as u64)],
         Cell::D(n) => lettered(b' ', b'D', n),
         Cell::Prime(n) => lettered(b'D', b'\'', n),
         Cell::T(n) => lettered(b' ', b'T', n),
-        Cell::Tail => [b' ', b' ', b' ', b' ', b'T'],
-        Cell::Nothing => [b' ', b' ', b' ', b' ', b'-'],
+        Cell::Tail => *b"    T",
     }
 }
 
-// Puts the line of an octet of a kind at a place, and answers where it ends: the octet's number in two columns, and what its eight bits are called.
-pub fn put_octet(out: &mut [u8], at: usize, k: Kind, octet: u8) -> usize
-    requires { (octet < 20) × (at + 43 ≤ length out.old) }
-    ensures { Put out.old at (octet_of k octet) out.new result }
+// Puts the line of an octet of a kind behind a text: the octet's number in two columns, and what its eight bits are called.
+pub fn put_octet<const N: usize>(text: &mut Text<N>, k: Kind, octet: u8)
+    requires { (octet < 20) × (length text.old + 43 ≤ N) }
+    ensures { text.new ≡ text.old ++ octet_of k octet }
 {
     let number = lettered(b' ', b' ', octet as usize + 1);
-    let mut end = text::put(out, at, &number[3..5]);
+    text.put(&number[3..]);
+    // The bit's number is what is named.
     for i in 0..8 {
-        let called = name(cells::cell_at(k, 8 * octet + i));
-        end = text::put(out, end, &called);
+        text.put(&name(cells::cell_at(k, 8 * octet + i)));
     }
-    text::put(out, end, b"\n")
+    text.put(b"\n");
 }

@@ -16,8 +16,6 @@ pub fn tail(s: &mut [u8], p: usize, t: usize)
     }
     put::put_top(s, p, 8 - r, 255);
     let end = (p + t) / 8;
-    for i in p / 8 + 1..end {
-        s[i] = 255;
-    }
+    s[p / 8 + 1..end].fill(255);
     put::put_top(s, 8 * end, (p + t) % 8, 255);
 }

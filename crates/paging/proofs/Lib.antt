@@ -1,4 +1,3 @@
-pub mod CallLaws
 pub mod PagedLaws
 pub mod HarvestLaws
 pub mod UnseenLaws

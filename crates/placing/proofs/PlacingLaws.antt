@@ -1,7 +1,7 @@
 -- The D bits of a kind in stretches, each with its formula, and in bytes.
 -- Assumes nothing.
-use mathlib.Core.Path.{◌≡◌, sym, ◌∙◌, ap}
-use mathlib.Core.Logic.{by_cases}
+use mathlib.Core.Path.{◌≡◌, refl, sym, ◌∙◌, ap}
+use mathlib.Core.Logic.{◌⊎◌, inl, inr, by_cases}
 use mathlib.Core.Bool.{true}
 use mathlib.Core.List.{map}
 use Prim.Native.Nat.{ℕ, ◌+◌, ◌*◌, ◌-◌, ◌<◌, ◌≤◌}
@@ -40,6 +40,15 @@ configuration_data d l h = get_or-take 125 (d_places Data) (d - 1) 0 (omega arit
 pub silence_lower : (d : ℕ) → 1 ≤ d → d ≤ 125 → d_place NoSpeech d ≡ d_place Lower d
 unfolding d_places
 silence_lower d l h = get_or-take 125 (d_places Lower) (d - 1) 0 (omega arith)
+
+-- so the two of a pair have their places by one formula
+pub like_data : (k : Kind) (d : ℕ) → (k ≡ Data) ⊎ (k ≡ Configuration) → 1 ≤ d → d ≤ d_count k → (d ≤ 126) × (d_place k d ≡ d_place Data d)
+like_data k d (inl e) l h = rw e (rw e at h, refl)
+like_data k d (inr e) l h = rw e (let u = rw e at h in (omega arith, configuration_data d l u))
+
+pub like_lower : (k : Kind) (d : ℕ) → (k ≡ NoSpeech) ⊎ (k ≡ Lower) → 1 ≤ d → d ≤ d_count k → (d ≤ 126) × (d_place k d ≡ d_place Lower d)
+like_lower k d (inl e) l h = rw e (let u = rw e at h in (omega arith, silence_lower d l u))
+like_lower k d (inr e) l h = rw e (rw e at h, refl)
 
 -- the D bits of byte j of a kind: how many they are
 module _ (k : Kind) (j n : ℕ) (inside : 8 * j < d_count k) (size : n ≡ size_of k j) where

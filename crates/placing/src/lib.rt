@@ -92,11 +92,9 @@ fn place_of(k: Kind, d: usize) -> usize
 {
     match k {
         Kind::Speech => speech_place(d),
-        Kind::Data => data_place(d),
+        Kind::Data | Kind::Configuration => data_place(d),
         Kind::Om => om_place(d),
-        Kind::Configuration => data_place(d),
-        Kind::NoSpeech => low_place(d),
-        Kind::Lower => low_place(d),
+        Kind::NoSpeech | Kind::Lower => low_place(d),
         Kind::Amr670 => place_670(d),
         Kind::Amr740 => place_740(d),
     }
@@ -110,12 +108,13 @@ pub fn place(k: Kind, d: usize) -> u8
     place_of(k, d) as u8
 }
 
-// How many D bits byte j of a kind has: eight, but for the last byte.
+// How many D bits byte j of a kind has: eight, but for the last byte. (Whoever takes k and j asks that the kind has that byte: a type of both would be built
+// anew in each turn of the loops over j, by the same proof.)
 pub fn size(k: Kind, j: usize) -> usize
     requires { 8 * j < d_count k }
     ensures { result ≡ size_of k j }
 {
-    scatter::least(8, dplaces::d_count(k) - 8 * j)
+    (dplaces::d_count(k) - 8 * j).min(8)
 }
 
 // The places of the D bits of byte j of a kind; zeros behind them.
@@ -124,9 +123,8 @@ pub fn eight(k: Kind, j: usize) -> [u8; 8]
     ensures { result ≡ eight_of k j ++ drop (size_of k j) (replicate 8 0) }
 {
     let mut out = [0u8; 8];
-    let n = size(k, j);
-    for i in 0..n {
-        out[i] = place(k, 8 * j + i + 1);
+    for (i, at) in out[..size(k, j)].iter_mut().enumerate() {
+        *at = place(k, 8 * j + i + 1);
     }
     out
 }

@@ -1,69 +1,88 @@
 // Plans of the D bytes: the entries of each byte of a kind, worked out when they are first wanted.
 #![tactic(auto)]
 
-ghost use Rattle.std.specs.Prelude.{◌≡◌, List, ℕ, ◌≤◌, ◌<◌, length};
-ghost use Rattle.channel.specs.Places.{d_places};
-ghost use Rattle.dplaces.specs.DPlaces.{Lent};
-ghost use Rattle.plans.specs.Plan.{odd_bytes, plan_from, Plans, MadeMore, PlannedFrom};
+mod one_kind;
+
+ghost use Rattle.std.specs.Prelude.{◌≡◌, ◌-◌, ◌<◌, length, IsSome, Some, None, slice_index_or, slice_set};
+ghost use Rattle.channel.specs.Kinds.{kind_no};
+ghost use Rattle.plans.specs.Kept.{Kept};
 
 use channel::Kind;
+use dplaces::PlaceTable;
+pub use one_kind::Plan;
 
-// Where a kind's part of the plan begins: 19 entries of three numbers for each kind, and which bytes are not two runs.
-pub fn plan_from(k: Kind) -> usize
-    ensures { result ≡ plan_from k }
-{
-    58 * (kinds::number(k) as usize - 1)
+// A place for the plan of each kind. It is a struct so that `Plans` can lend it for writing.
+#[derive(Drop)]
+struct Slots {
+    plans: [Option<Plan>; 8],
 }
 
-// The bytes from the first on that is not two runs to the last, as one number: the first, and 32 times the one behind the last; 33, from 1 to 1, for none.
-fn odd_bytes(odd: u32, j: usize, f: u32) -> u32
-    requires { j < 19 }
-    ensures { result ≡ odd_bytes odd j f }
-{
-    if f != 1 {
-        return odd;
-    }
-    let to = j as u32 + 1;
-    if odd == 33 {
-        32 * to + j as u32
-    } else {
-        32 * to + odd % 32
+impl Slots {
+    // Keeps a plan.
+    fn keep(&mut self, at: usize, plan: Plan)
+        requires { at < length self.old.plans }
+        ensures { self.new.plans ≡ slice_set self.old.plans at (Some plan) }
+    {
+        let plans = &mut self.plans[..];
+        plans[at] = Some(plan);
     }
 }
 
-// The entries of the D bytes of a kind, from `base` on.
-fn plan_kind(plan: &mut [u32], table: &[u8], k: Kind, base: usize)
-    requires { Lent table.now × (base ≤ 406) × (length plan.old ≡ 464) }
-    ensures { PlannedFrom (d_places k) base plan.old plan.new }
-{
-    let n = (dplaces::d_count(k) + 7) / 8;
-    let mut odd: u32 = 33;
-    for j in 0..n {
-        let e = eights::entry(table, k, j);
-        let f = e.f;
-        let at = base + 3 * j;
-        plan[at] = e.m;
-        plan[at + 1] = f;
-        plan[at + 2] = e.h;
-        odd = odd_bytes(odd, j, f);
-    }
-    plan[base + 57] = odd;
-}
-
-// Makes the plan of a kind, if it is not made yet.
-pub fn ready(plan: &mut [u32], table: &[u8], k: Kind)
-    requires { Plans table.now plan.old }
-    ensures { MadeMore table.now k plan.old plan.new }
-{
-    let base = plan_from(k);
-    if plan[base + 57] == 0 {
-        plan_kind(plan, table, k, base);
-    }
+// What a call lends of the table, and the plans of the kinds that were wanted, each where its number says.
+#[derive(Drop)]
+pub struct Plans {
+    table: Option<PlaceTable>,
+    made: Slots,
+    ghost room: { length made.plans ≡ 8 },
+    ghost kept: { Kept made.plans },
 }
 
 // Room for the plans of the eight kinds, none of them made.
-pub fn no_plans() -> [u32; 464]
-    ensures { (places : List ℕ) → Lent places → Plans places result }
+pub fn no_plans(table: Option<PlaceTable>) -> Plans {
+    Plans {
+        table,
+        made: Slots { plans: [None; 8] },
+    }
+}
+
+// Where the plan of a kind is kept.
+fn place_of(k: Kind) -> usize
+    ensures { result ≡ kind_no k - 1 }
 {
-    [0u32; 464]
+    kinds::number(k) as usize - 1
+}
+
+impl Plans {
+    // Makes the plan of a kind, if it is not made yet.
+    fn ready(&mut self, k: Kind)
+        ensures { IsSome (slice_index_or self.new.made.plans (kind_no k - 1) None) }
+    {
+        let at = place_of(k);
+        let made = &self.made.plans[..];
+        if made[at].is_none() {
+            let plan = Plan::new(self.table, k);
+            self.made.keep(at, plan);
+        }
+    }
+
+    // The plan of a kind that is made.
+    fn at(&self, k: Kind) -> &Plan
+        requires { IsSome (slice_index_or self.now.made.plans (kind_no k - 1) None) }
+        ensures { result.now.kind ≡ k }
+    {
+        let at = place_of(k);
+        let made = &self.made.plans[..];
+        match &made[at] {
+            Some(plan) => plan,
+            None => unreachable!(),
+        }
+    }
+
+    // The plan of a kind, made when it is first asked for.
+    pub fn of(&mut self, k: Kind) -> &Plan
+        ensures { result.now.kind ≡ k }
+    {
+        self.ready(k);
+        self.at(k)
+    }
 }

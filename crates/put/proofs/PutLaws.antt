@@ -9,11 +9,13 @@ use native.Mathlib.Nat.{mod-lt, add-zero, zero-add}
 use native.Mathlib.Decide.{ℕ_discrete, dec_lt}
 use native.Mathlib.Omega.{arith}
 use lib.Dec.{eqb}
-use lib.ListN.{length, get_or, set, replicate, length-set}
-use lib.Pow.{pow_pos, shr-shr, high, low, field, mod-mod-pow}
+use lib.ListN.{length, get_or, set, replicate, length-set, length-replicate}
+use lib.Pow.{pow_pos, shr-shr, high, low}
 use lib.Seq.{get_or-set_same, get_or-set_other}
 use Rattle.bits.specs.Bit.{bit_at, to_n, count}
-use Rattle.bits.proofs.BitLaws.{to_n_lt, to_n-one}
+use Rattle.std.proofs.lemmas.List.{get_or-replicate}
+use Rattle.bits.proofs.CountLaws.{length-map-count, get_or-map-count}
+use Rattle.bits.proofs.BitLaws.{to_n_lt, to_n-one, low_bit}
 use Rattle.bits.specs.Put.{put_in, put_bit, put_bits}
 
 module _ (x k b : ℕ) (hb : b < 2) where
@@ -34,13 +36,9 @@ module _ (x k b : ℕ) (hb : b < 2) where
       ∙ sym (shr-shr (x / 2 ^ k / 2 * 2 + b) 1 d) ∙ ap (λ n. n / 2 ^ d) e
       ∙ shr-shr (x / 2 ^ k) 1 d ∙ shr-shr x k (1 + d)
 
--- a bit of n is seen in n's remainder by a higher power
-bit_of_low : (n d j : ℕ) → n / 2 ^ j % 2 ≡ n % 2 ^ (d + (1 + j)) % 2 ^ (1 + j) / 2 ^ j
-bit_of_low n d j = sym (field n 1 j) ∙ ap (λ m. m / 2 ^ j) (sym (mod-mod-pow n d (1 + j)))
-
 put-below : (x d j b : ℕ) → b < 2 → put_in x (d + (1 + j)) b / 2 ^ j % 2 ≡ x / 2 ^ j % 2
 put-below x d j b hb =
-    bit_of_low (put_in x (d + (1 + j)) b) d j ∙ ap (λ m. m % 2 ^ (1 + j) / 2 ^ j) (low_part x (d + (1 + j)) b hb) ∙ sym (bit_of_low x d j)
+    sym (low_bit (put_in x (d + (1 + j)) b) d j) ∙ ap (λ m. m / 2 ^ j % 2) (low_part x (d + (1 + j)) b hb) ∙ low_bit x d j
 
 -- the other bits of a byte
 pub put-apart : (x k b j : ℕ) → b < 2 → (j ≡ k → ⊥) → put_in x k b / 2 ^ j % 2 ≡ x / 2 ^ j % 2
@@ -93,28 +91,16 @@ puts_append (b ∷ bs) cs s p =
 
 -- the bits of a body and of a tail
 pub body-length : (g : ℕ → Bool) (k : ℕ) → length (map g (count k 0)) ≡ k
-body-length g k = go k 0
-  where
-    go : (k a : ℕ) → length (map g (count k a)) ≡ k
-    go zero a = refl
-    go (suc k) a = ap suc (go k (suc a))
+body-length g k = length-map-count g k 0
 
 pub body-bit : (g : ℕ → Bool) (k i : ℕ) → i < k → get_or (map g (count k 0)) i false ≡ g i
-body-bit g k i h = go k 0 i h ∙ ap g (zero-add i)
-  where
-    go : (k a i : ℕ) → i < k → get_or (map g (count k a)) i false ≡ g (a + i)
-    go zero a i h = absurd (omega arith)
-    go (suc k) a zero h = ap g (sym (add-zero a))
-    go (suc k) a (suc i) h = let e : suc a + i ≡ a + suc i = omega arith in go k (suc a) i (omega arith) ∙ ap g e
+body-bit g k i h = get_or-map-count g k 0 i false h ∙ ap g (zero-add i)
 
 pub tail-bit : (t i : ℕ) → i < t → get_or (replicate t true) i false ≡ true
-tail-bit zero i h = absurd (omega arith)
-tail-bit (suc t) zero h = refl
-tail-bit (suc t) (suc i) h = tail-bit t i (omega arith)
+tail-bit t i h = get_or-replicate t i true false h
 
 pub tail-length : (t : ℕ) → length (replicate {A = Bool} t true) ≡ t
-tail-length zero = refl
-tail-length (suc t) = ap suc (tail-length t)
+tail-length t = length-replicate t true
 
 -- every bit after: those put, and the others as they were
 pub puts_before : (bs : List Bool) (s : List ℕ) (p r : ℕ) → p + length bs ≤ 8 * length s → r < p → bit_at (put_bits s p bs) r ≡ bit_at s r

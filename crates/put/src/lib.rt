@@ -1,7 +1,7 @@
-// Bits put into bytes: a run of bits inside one byte, one bit, and a byte of bits that stand over two.
+// Bits put into bytes: a run of bits inside one byte, and one bit.
 #![tactic(auto)]
 
-ghost use Rattle.std.specs.Prelude.{◌≡◌, Bool, List, [], ◌∷◌, map, ℕ, ◌+◌, ◌*◌, ◌-◌, ◌/◌, ◌%◌, ◌^◌, ◌<◌, ◌≤◌, length, get_or};
+ghost use Rattle.std.specs.Prelude.{◌≡◌, Bool, [], ◌∷◌, map, ℕ, ◌+◌, ◌*◌, ◌-◌, ◌/◌, ◌%◌, ◌^◌, ◌<◌, ◌≤◌, length};
 ghost use Rattle.bits.specs.Bit.{bit_at, count};
 ghost use Rattle.put.specs.Put.{put_run, Shows};
 ghost use Rattle.bits.specs.Put.{put_bit, put_bits};
@@ -43,18 +43,10 @@ pub fn put_bit(s: &mut [u8], p: usize, b: bool)
     put_top(s, p, 1, all_of(b));
 }
 
-// Eight of the sixteen bits of a and b, up to bit 16 - r: what a byte gets of two neighbouring octets that are put r bits late.
-pub fn join(a: u8, b: u8, r: usize) -> u8
-    requires { r ≤ 8 }
-    ensures { (o : List ℕ) (i : ℕ) → get_or o i 0 ≡ a → get_or o (i + 1) 0 ≡ b → Shows result (bit_at o) (8 * (i + 1) - r) }
-{
-    (((a as u32 * 256 + b as u32) >> r) % 256) as u8
-}
-
 // The bits of a byte from bit k on, with zeros behind them.
 pub fn from_bit(b: u8, k: usize) -> u8
     requires { k ≤ 8 }
     ensures { Shows result (bit_at (b ∷ [])) k }
 {
-    join(b, 0, 8 - k)
+    bits::join(b, 0, 8 - k)
 }

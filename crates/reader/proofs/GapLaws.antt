@@ -2,28 +2,27 @@
 -- Assumes nothing.
 use mathlib.Core.Path.{◌≡◌, refl, sym, ◌∙◌, subst}
 use mathlib.Core.Logic.{inl, inr, by_cases}
-use mathlib.Core.Bool.{Bool, true, false, not, ◌&&◌}
+use mathlib.Core.Bool.{Bool, true, false, ◌&&◌}
 use mathlib.Core.List.{List, [], ◌∷◌}
 use Prim.Native.Nat.{ℕ, ◌+◌, ◌*◌, ◌≤◌, ◌<◌}
 use native.Mathlib.Omega.{arith}
 use native.Mathlib.Decide.{ℕ_discrete, dec_lt}
-use borrow.Author.Tests.{not-true, eqb-true}
+use borrow.Author.Tests.{eqb-true}
 use lib.Dec.{eqb}
 use lib.ListN.{get_or}
 use Rattle.reading.specs.Reading.{Starts}
 use Rattle.sync.specs.Sync.{Synced, SyncFrom}
 use Rattle.channel.specs.declared.Pattern.{Pattern}
-use Rattle.channel.specs.declared.Kind.{Kind}
 use Rattle.channel.specs.Kinds.{pattern_of}
 use Rattle.channel.specs.Places.{elem, ones_of}
 use Rattle.channel.specs.Coding.{all, fixed}
 use Rattle.channel.specs.Frames.{Capture, Frame, rules}
 use Rattle.channel.proofs.BoolLaws.{never, and_l, and_r, all-at, all-below, one_at}
 use Rattle.channel.proofs.FrameLaws.{starts_by_lem, body_low, body-bit, first_zero_lem}
-use Rattle.item.specs.declared.ItemKind.TheVariants as of
-use Rattle.item.specs.declared.Item.{Item}
+use Rattle.std.specs.Prelude.{Option, Some, None, is_some}
+use Rattle.item.specs.declared.Frame as code
 use Rattle.item.specs.Item.{frame_of}
-use Rattle.reader.specs.Seen.{SeenBy, Seen, Starting, GapEnd}
+use Rattle.reader.specs.Seen.{Seen, Starting, GapEnd}
 
 -- the fixed ones behind the first nine bits
 abbrev pub sync : List ℕ
@@ -63,8 +62,8 @@ module _ (w : Capture) (q : ℕ) where
     start_fits = omega (arith, h.stands.before, body_low f.kind)
 
   -- so nothing starts where one of them differs
-  pub none_differs : (j : ℕ) (b : Bool) → j < 8 → b ≡ w.bits (q + get_or sync j 0) → not b ≡ true → (f : Frame) → Starts rules w q f → ⊥
-  none_differs j b l r t f h = never (sym (r ∙ start-bit f h j l) ∙ not-true b t)
+  pub none_differs : (j : ℕ) (b : Bool) → j < 8 → b ≡ w.bits (q + get_or sync j 0) → b ≡ false → (f : Frame) → Starts rules w q f → ⊥
+  none_differs j b l r t f h = never (sym (r ∙ start-bit f h j l) ∙ t)
 
   -- nor where the first nine bits do not stand
   pub none-synced : (Synced w.bits q → ⊥) → (f : Frame) → Starts rules w q f → ⊥
@@ -75,14 +74,9 @@ module _ (w : Capture) (q : ℕ) where
   none-fits l f h = omega (arith, start_fits f h)
 
   -- whether a frame starts a run, by the frame that was seen in context 0
-  pub start_seen : (i : Item) (k : Kind) → Seen w 0 q i → i.kind ≡ of.Frame k → Starting w q true
-  start_seen i k h e = let h' : SeenBy w 0 q (of.Frame k) _ _ _ _ = rw e at h in (frame_of k i.octets i.start i.length i.verdict, h'.0)
-
-  pub none_seen : (i : Item) → Seen w 0 q i → i.kind ≡ of.Gap → Starting w q false
-  none_seen i h e = rw e at h
-
-pub not_starting : (w : Capture) (q : ℕ) (b : Bool) → Starting w q b → b ≡ false → (f : Frame) → Starts rules w q f → ⊥
-not_starting w q b h e = let h' : Starting w q false = rw e at h in h'
+  pub start_seen : (seen : Option code.Frame) → Seen w 0 q seen → Starting w q (is_some seen)
+  start_seen (Some f) h = (frame_of f, h.0)
+  start_seen None h = h
 
 -- no frame starts a run at the places from `from` to q
 abbrev pub Passed : Capture → ℕ → ℕ → Type 0
@@ -100,8 +94,8 @@ module _ (w : Capture) (from q : ℕ) (passed : Passed w from q) where
       by_cases (dec_lt i q) (λ (e : i < q). passed i a e) (λ (e : ¬ (i < q)). none-synced w i (h.none i (omega arith) b))
 
   -- the search ends where a frame starts a run
-  pub gap_found : from ≤ q → q ≤ w.n → (b : Bool) → Starting w q b → b ≡ true → GapEnd w from q
-  gap_found l m b h e = let h' : Starting w q true = rw e at h in record { from = l; within = m; none_starts = passed; stops = inr h' }
+  pub gap_found : from ≤ q → q ≤ w.n → Starting w q true → GapEnd w from q
+  gap_found l m h = record { from = l; within = m; none_starts = passed; stops = inr h }
 
   -- or at n, where too few bits are left
   pub gap-all : from ≤ q → q ≤ w.n → w.n < q + 158 → GapEnd w from w.n

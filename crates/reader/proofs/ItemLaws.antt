@@ -6,31 +6,29 @@ use mathlib.Core.List.{List}
 use Prim.Native.Nat.{ℕ, ◌+◌, ◌-◌, ◌<◌}
 use native.Mathlib.Omega.{arith}
 use native.Mathlib.Decide.{ℕ_discrete}
-use Rattle.reading.specs.Reading as reading
 use Rattle.reading.specs.Reading.{Starts, Gap}
 use Rattle.reading.proofs.ItemLaws.{one}
 use Rattle.channel.specs.declared.Kind.{Kind}
-use Rattle.channel.specs.Frames.{Capture, Frame, Due, rules}
+use Rattle.channel.specs.Frames.{Capture, Frame, rules}
 use Rattle.channel.proofs.FrameLaws.{sound}
-use Rattle.item.specs.declared.ItemKind.{ItemKind}
-use Rattle.item.specs.declared.ItemKind.TheVariants as of
+use Rattle.std.specs.Prelude.{Some, None}
+use Rattle.item.specs.declared.Frame as code
 use Rattle.item.specs.declared.Item.{Item}
+use Rattle.item.specs.declared.Item.TheVariants as of
 use Rattle.item.specs.declared.Cursor.{Cursor}
-use Rattle.item.specs.Item.{frame_of, item_by, item_of, cursor_of}
-use Rattle.reader.specs.Seen.{gap_of, octets_at, Seen, GapEnd, Beside, ItemAt}
+use Rattle.item.specs.Item.{frame_of, item_of, cursor_of}
+use Rattle.reader.specs.Seen.{octets_at, Seen, GapEnd, Beside, ItemAt}
 
-module _ (w : Capture) (c : Cursor) (i : Item) (seen : Seen w c.context c.position i) where
+module _ (w : Capture) (c : Cursor) where
   -- a frame that is due is the item
-  pub item-frame : (k : Kind) → i.kind ≡ of.Frame k → ItemAt w (cursor_of c) i
-  item-frame k e =
-      let h : Due w c.context c.position (frame_of k i.octets i.start i.length i.verdict) × (i.octets ≡ octets_at w c.position) = rw e at seen in
-      record { obeys = rw e h.0; beside = rw e (h.1 ∙ ap (octets_at w) (sym h.0.stands.at)) }
+  pub item-frame : (f : code.Frame) → Seen w c.context c.position (Some f) → ItemAt w (cursor_of c) (of.Frame f)
+  item-frame f seen = record { obeys = seen.0; beside = seen.1 ∙ ap (octets_at w) (sym seen.0.stands.at) }
 
   -- else it is the gap to where the search ends
-  the_gap : i.kind ≡ of.Gap → (r : ℕ) → c.position < w.n → GapEnd w (c.position + 1) r → Gap rules w (cursor_of c) c.position (r - c.position)
-  the_gap e r l end =
-      let none-due : ((f : Frame) → Due w c.context c.position f → ⊥) = rw e at seen in
+  pub item-gap : (r : ℕ) → Seen w c.context c.position None → c.position < w.n → GapEnd w (c.position + 1) r → ItemAt w (cursor_of c) (of.Gap c.position (r - c.position))
+  item-gap r none-due l end =
       let back : c.position + (r - c.position) ≡ r = omega (arith, end.from) in
+      let gap : Gap rules w (cursor_of c) c.position (r - c.position) =
       record {
         from = refl;
         filled = omega (arith, end.from);
@@ -44,33 +42,27 @@ module _ (w : Capture) (c : Cursor) (i : Item) (seen : Seen w c.context c.positi
             none-due g.0 g.1)
             (λ (d : ¬ (c.position ≡ q)). end.none_starts q (omega arith) (omega arith) f h);
         none_follows = none-due;
-      }
+      } in
+      record { obeys = gap; beside = tt }
 
-  pub item-gap : i.kind ≡ of.Gap → (r : ℕ) → c.position < w.n → GapEnd w (c.position + 1) r → (g : Item) → g ≡ gap_of c.position (r - c.position) → ItemAt w (cursor_of c) g
-  item-gap e r l end g is = subst (ItemAt w (cursor_of c)) (sym is) (record { obeys = the_gap e r l end; beside = (refl, refl) })
+-- frames that are one for the rules, and whose octets are those from their start on, are one in every number
+same_frame : (w : Capture) (f g : code.Frame) → frame_of f ≡ frame_of g → f.octets ≡ octets_at w f.start → g.octets ≡ octets_at w g.start → f ≡ g
+same_frame w f g e a b =
+    let start : f.start ≡ g.start = ap (λ (h : Frame). h.start) e in
+    made f.kind g.kind f.octets g.octets f.start g.start f.tail g.tail f.verdict g.verdict (ap (λ (h : Frame). h.kind) e) (a ∙ ap (octets_at w) start ∙ sym b) start
+    (ap (λ (h : Frame). h.tail) e) (ap (λ (h : Frame). h.verdict) e)
+  where
+    made : (j k : Kind) (o p : List ℕ) (s t l m v u : ℕ) → j ≡ k → o ≡ p → s ≡ t → l ≡ m → v ≡ u
+        → ◌≡◌ {A = code.Frame} (record { kind = j; octets = o; start = s; tail = l; verdict = v }) (record { kind = k; octets = p; start = t; tail = m; verdict = u })
+    made j k o p s t l m v u d q r z y = rw (d, q, r, z, y)
 
 -- items that are one for the rules are one in every number
-same_numbers : (w : Capture) (j k : ItemKind) (o p : List ℕ) (s t l m v u : ℕ) → item_by j o s l v ≡ item_by k p t m u → Beside w j o s v → Beside w k p t u
-    → ◌≡◌ {A = Item} (record { kind = j; octets = o; start = s; length = l; verdict = v }) (record { kind = k; octets = p; start = t; length = m; verdict = u })
-same_numbers w (of.Frame j) (of.Frame k) o p s t l m v u e a b =
-    let f : frame_of j o s l v ≡ frame_of k p t m u = frame-one (frame_of j o s l v) (frame_of k p t m u) e in
-    let d : j ≡ k = ap (λ (g : Frame). g.kind) f in
-    let q : s ≡ t = ap (λ (g : Frame). g.start) f in
-    let r : l ≡ m = ap (λ (g : Frame). g.tail) f in
-    let z : v ≡ u = ap (λ (g : Frame). g.verdict) f in
-    rw (d, a, b, q, r, z)
-  where
-    frame-one : (f g : Frame) → reading.frame f ≡ reading.frame g → f ≡ g
-    frame-one f g e = cc
-same_numbers w of.Gap of.Gap o p s t l m v u e (a, x) (b, y) =
-    let q : s ≡ t = cc in
-    let r : l ≡ m = cc in
-    rw (a, b, q, r, x, y)
-same_numbers w (of.Frame j) of.Gap o p s t l m v u e a b = let z : ◌≡◌ {A = ℕ} 0 1 = cc in absurd (omega arith)
-same_numbers w of.Gap (of.Frame k) o p s t l m v u e a b = let z : ◌≡◌ {A = ℕ} 0 1 = cc in absurd (omega arith)
+same_item : (w : Capture) (i j : Item) → item_of i ≡ item_of j → Beside w i → Beside w j → i ≡ j
+same_item w (of.Frame f) (of.Frame g) e a b = let same : frame_of f ≡ frame_of g = cc in ap of.Frame (same_frame w f g same a b)
+same_item w (of.Gap s l) (of.Gap t m) e a b = cc
+same_item w (of.Frame f) (of.Gap s l) e a b = cc
+same_item w (of.Gap s l) (of.Frame f) e a b = cc
 
 -- no second item fits, in any of its numbers
 pub item-one : (w : Capture) (c : Cursor) (i j : Item) → ItemAt w (cursor_of c) i → ItemAt w (cursor_of c) j → i ≡ j
-item-one w c i j a b =
-    same_numbers w i.kind j.kind i.octets j.octets i.start j.start i.length j.length i.verdict j.verdict
-    (one rules w (sound w) (cursor_of c) (item_of i) (item_of j) a.obeys b.obeys) a.beside b.beside
+item-one w c i j a b = same_item w i j (one rules w (sound w) (cursor_of c) (item_of i) (item_of j) a.obeys b.obeys) a.beside b.beside

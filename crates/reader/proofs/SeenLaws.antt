@@ -1,20 +1,18 @@
 -- A frame seen in the twenty octets from p on is a frame that is due at p, and where none is seen none is due.
 -- Assumes nothing.
 use mathlib.Core.Path.{◌≡◌, refl, sym, ◌∙◌, ap, subst, fun_ext}
-use mathlib.Core.Bool.{Bool, true, false, not, ◌&&◌, cond}
+use mathlib.Core.Bool.{Bool, true, false, ◌&&◌, cond}
 use mathlib.Core.List.{List}
 use Prim.Native.Nat.{ℕ, ◌+◌, ◌≤◌, ◌<◌}
 use native.Mathlib.Omega.{arith}
 use native.Mathlib.Nat.{zero-add}
-use borrow.Author.Tests.{ltb-true, lt-ltb, not-true, not-false}
+use borrow.Author.Tests.{ltb-true, lt-ltb}
 use lib.Dec.{eqb, ltb}
 use Rattle.bits.specs.Bit.{bit_at, twenty, bits_from}
 use Rattle.bits.proofs.BitLaws.{twenty-bit}
 use Rattle.channel.specs.declared.Direction.{Direction}
-use Rattle.channel.specs.declared.Terms.{Terms}
 use Rattle.channel.specs.declared.Kind.{Kind}
-use Rattle.channel.specs.declared.Found.{Found}
-use Rattle.channel.specs.declared.Found.TheVariants.{Is, Nothing}
+use Rattle.std.specs.Prelude.{Some, None}
 use Rattle.channel.specs.Kinds.{body_of, least_tail}
 use Rattle.channel.specs.Coding.{Word, word_at, is_body}
 use Rattle.channel.specs.Verdict.{Context, verdict_of, starts_by, follows, allowed}
@@ -23,32 +21,26 @@ use Rattle.channel.proofs.BoolLaws.{never}
 use Rattle.channel.proofs.TailLaws.{tail-one}
 use Rattle.channel.proofs.FrameLaws.{one-body, body_high, uncut}
 use Rattle.channel.proofs.CutLaws.{allowed_by, verdict-cut}
-use Rattle.coding.specs.Found.{KindOf}
-use Rattle.item.specs.declared.Item.{Item}
-use Rattle.item.specs.Item.{frame_of}
-use Rattle.reader.specs.Seen.{gap_of, octets_at, Seen}
+use Rattle.reader.specs.Seen.{octets_at, Seen}
 
-module _ (f : ℕ → Bool) (n : ℕ) (terms : Terms) (x : Context) (p : ℕ) (o : List ℕ) (octets : o ≡ twenty (bits_from f n p)) where
-  abbrev w : Capture
-  w = record { bits = f; n = n; terms = terms }
-
+module _ (w : Capture) (x : Context) (p : ℕ) (o : List ℕ) (octets : o ≡ octets_at w p) where
   abbrev d : Direction
-  d = terms.direction
+  d = w.terms.direction
 
   abbrev g : Word
   g = bit_at o
 
   -- a body before n is in the octets
-  word_in : (k : Kind) → p + body_of k ≤ n → word_at g 0 (body_of k) ≡ word_at f p (body_of k)
+  word_in : (k : Kind) → p + body_of k ≤ w.n → word_at g 0 (body_of k) ≡ word_at w.bits p (body_of k)
   word_in k h = fun_ext (λ i. go i (ltb i (body_of k)) refl)
     where
-      go : (i : ℕ) (b : Bool) → ltb i (body_of k) ≡ b → b && g (0 + i) ≡ b && f (p + i)
+      go : (i : ℕ) (b : Bool) → ltb i (body_of k) ≡ b → b && g (0 + i) ≡ b && w.bits (p + i)
       go i false e = refl
       go i true e =
           let l : i < body_of k = ltb-true i (body_of k) e in
-          let m : ltb (p + i) n ≡ true = lt-ltb (p + i) n (omega arith) in
-          let t : bit_at (twenty (bits_from f n p)) i ≡ ltb (p + i) n && f (p + i) = twenty-bit (bits_from f n p) i (omega (arith, body_high k)) in
-          ap g (zero-add i) ∙ ap (λ (s : List ℕ). bit_at s i) octets ∙ t ∙ ap (λ (c : Bool). c && f (p + i)) m
+          let m : ltb (p + i) w.n ≡ true = lt-ltb (p + i) w.n (omega arith) in
+          let t : bit_at (twenty (bits_from w.bits w.n p)) i ≡ ltb (p + i) w.n && w.bits (p + i) = twenty-bit (bits_from w.bits w.n p) i (omega (arith, body_high k)) in
+          ap g (zero-add i) ∙ ap (λ (s : List ℕ). bit_at s i) octets ∙ t ∙ ap (λ (c : Bool). c && w.bits (p + i)) m
 
   -- what is due has its body in the octets
   due-body : (h : Frame) → Due w x p h → is_body d g h.kind ≡ true
@@ -58,7 +50,7 @@ module _ (f : ℕ → Bool) (n : ℕ) (terms : Terms) (x : Context) (p : ℕ) (o
       ∙ e.stands.holds
 
   -- no kind: nothing is due
-  pub none_of_no_kind : ((k : Kind) → is_body d g k ≡ false) → (h : Frame) → Due w x p h → ⊥
+  pub none_of_no_kind : ((k : Kind) → is_body d g k ≡ false) → Seen w x p None
   none_of_no_kind lacks h e = never (sym (due-body h e) ∙ lacks h.kind)
 
   module _ (k : Kind) (is : is_body d g k ≡ true) where
@@ -66,20 +58,20 @@ module _ (f : ℕ → Bool) (n : ℕ) (terms : Terms) (x : Context) (p : ℕ) (o
     same_kind h e = one-body d g h.kind k (due-body h e) is
 
     -- the body runs past n
-    pub none-past : n < p + body_of k → (h : Frame) → Due w x p h → ⊥
+    pub none-past : w.n < p + body_of k → Seen w x p None
     none-past l h e = let q = ap body_of (same_kind h e) in omega (arith, e.stands.before)
 
     -- rule 2 does not allow it
-    pub none-refused : (v : ℕ) (r : Bool) → v ≡ verdict_of terms x g k → r ≡ cond (eqb x 0) (starts_by k v) (follows x k) → not r ≡ true → (h : Frame) → Due w x p h → ⊥
-    none-refused v r j t z h e =
+    pub none-refused : (v : ℕ) → v ≡ verdict_of w.terms x g k → cond (eqb x 0) (starts_by k v) (follows x k) ≡ false → Seen w x p None
+    none-refused v j z h e =
         let q = same_kind h e in
         let b : h.body ≡ word_at g 0 (body_of h.kind) = e.stands.bits ∙ sym (word_in h.kind e.stands.before) in
-        let a : allowed terms x (word_at g 0 (body_of h.kind)) h.kind ≡ true = subst (λ (u : Word). allowed terms x u h.kind ≡ true) b e.allows in
-        let a' : allowed terms x (word_at g 0 (body_of k)) k ≡ true = subst (λ (i : Kind). allowed terms x (word_at g 0 (body_of i)) i ≡ true) q a in
-        never (sym a' ∙ sym (allowed_by terms x g k v j) ∙ sym t ∙ not-true r z)
+        let a : allowed w.terms x (word_at g 0 (body_of h.kind)) h.kind ≡ true = subst (λ (u : Word). allowed w.terms x u h.kind ≡ true) b e.allows in
+        let a' : allowed w.terms x (word_at g 0 (body_of k)) k ≡ true = subst (λ (i : Kind). allowed w.terms x (word_at g 0 (body_of i)) i ≡ true) q a in
+        never (sym a' ∙ sym (allowed_by w.terms x g k v j) ∙ z)
 
     -- the tail is too short
-    pub none-short : (t : ℕ) → Tail w (p + body_of k) t → t < least_tail d k → (h : Frame) → Due w x p h → ⊥
+    pub none-short : (t : ℕ) → Tail w (p + body_of k) t → t < least_tail d k → Seen w x p None
     none-short t whole l h e =
         let q = same_kind h e in
         let t' : Tail w (p + body_of k) h.tail = subst (λ (i : Kind). Tail w (p + body_of i) h.tail) q e.stands.tail in
@@ -87,9 +79,9 @@ module _ (f : ℕ → Bool) (n : ℕ) (terms : Terms) (x : Context) (p : ℕ) (o
         omega (arith, tail-one w (p + body_of k) t h.tail whole t')
 
     -- and where nothing is amiss it is due
-    pub seen_due : (v t : ℕ) (r : Bool) → p + body_of k ≤ n → v ≡ verdict_of terms x g k → r ≡ cond (eqb x 0) (starts_by k v) (follows x k) → not r ≡ false → Tail w (p + body_of k) t
-        → least_tail d k ≤ t → Due w x p (frame_of k o p t v) × (o ≡ octets_at w p)
-    seen_due v t r l j a z whole m = (
+    pub seen_due : (v t : ℕ) → p + body_of k ≤ w.n → v ≡ verdict_of w.terms x g k → cond (eqb x 0) (starts_by k v) (follows x k) ≡ true → Tail w (p + body_of k) t
+        → least_tail d k ≤ t → Seen w x p (Some (record { kind = k; octets = o; start = p; tail = t; verdict = v }))
+    seen_due v t l j z whole m = (
       record {
         stands =
             record {
@@ -100,19 +92,8 @@ module _ (f : ℕ → Bool) (n : ℕ) (terms : Terms) (x : Context) (p : ℕ) (o
               tail = whole;
               least = m;
             };
-        allows = sym (allowed_by terms x g k v j) ∙ sym a ∙ not-false r z;
-        judged = j ∙ sym (verdict-cut terms x g k);
+        allows = sym (allowed_by w.terms x g k v j) ∙ z;
+        judged = j ∙ sym (verdict-cut w.terms x g k);
       },
       octets,
     )
-
--- an answer without a frame
-pub seen_gap : (w : Capture) (x : Context) (p : ℕ) (i : Item) → i ≡ gap_of p 0 → ((f : Frame) → Due w x p f → ⊥) → Seen w x p i
-seen_gap w x p i e h = rw e h
-
--- an answer by what was found
-pub kind-is : (t : Terms) (g : Word) (r : Found) (k : Kind) → KindOf t g r → r ≡ Is k → is_body t.direction g k ≡ true
-kind-is t g r k h e = let h' : KindOf t g (Is k) = rw e at h in h'
-
-pub kind_no_lem : (t : Terms) (g : Word) (r : Found) → KindOf t g r → r ≡ Nothing → (k : Kind) → is_body t.direction g k ≡ false
-kind_no_lem t g r h e = let h' : KindOf t g Nothing = rw e at h in h'

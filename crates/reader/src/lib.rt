@@ -1,99 +1,77 @@
 // The item at a cursor: the frame that is due there, or the gap to the next place where a frame starts a run.
 #![tactic(auto)]
 
-ghost use Rattle.std.specs.Prelude.{◌≡◌, ◌+◌, ◌*◌, ◌<◌, ◌≤◌, length};
-ghost use Rattle.channel.specs.Frames.{capture_of};
-ghost use Rattle.masks.specs.Kept.{Kept};
+ghost use Rattle.std.specs.Prelude.{◌+◌, ◌<◌, ◌≤◌, length};
+ghost use Rattle.capture.specs.Capture.{capture_of};
 ghost use Rattle.item.specs.Item.{cursor_of};
-ghost use Rattle.reader.specs.Seen.{gap_of, Seen, Starting, GapEnd, ItemAt};
+ghost use Rattle.reader.specs.Seen.{Seen, Starting, GapEnd, ItemAt};
 
-use channel::{Found, Terms};
-use item::{Cursor, Item, ItemKind};
+use capture::Capture;
+use item::{Cursor, Frame, Item};
+use masks::Masks;
 
-// A gap.
-fn gap(start: usize, length: usize) -> Item
-    ensures { result ≡ gap_of start length }
+// The frame that is due at p in context x. The tail is counted last, so that only the tail of a frame that is otherwise due is gone through.
+fn frame_at(capture: &Capture<'_>, p: usize, x: u8, masks: &mut Masks) -> Option<Frame>
+    requires { p ≤ capture.now.bits }
+    ensures { Seen (capture_of capture.now) x p result }
 {
-    Item {
-        kind: ItemKind::Gap,
-        octets: [0u8; 20],
-        start: start,
-        length: length,
-        verdict: 0,
+    let octets = bits::octets(capture.bytes, capture.bits, p);
+    let kind = coding::kind_of(octets, capture.terms)?;
+    let behind = p + kinds::body(kind);
+    if capture.bits < behind {
+        return None;
     }
-}
-
-// The frame that is due at p in context x; where none is, the gap there, of which no bit is searched yet. The tail is counted last, so that only the tail of
-// a frame that is otherwise due is gone through.
-fn frame_at(s: &[u8], n: usize, t: Terms, p: usize, x: u8, masks: &mut [u64]) -> Item
-    requires { (p ≤ n) × (n ≤ 8 * length s.now) × (length s.now ≤ 65536) × Kept masks.old }
-    ensures { Seen (capture_of s.now n t) x p result × Kept masks.new }
-{
-    let d = t.direction;
-    let o = bits::octets(s, n, p);
-    match coding::kind_of(o, t) {
-        Found::Is(k) => {
-            let behind = p + kinds::body(k);
-            if n < behind {
-                return gap(p, 0);
-            }
-            let verdict = verdict::verdict_in(o, k, t, x, masks);
-            if !allowed::allowed_in(k, x, verdict) {
-                return gap(p, 0);
-            }
-            let tail = tails::tail_at(s, n, behind);
-            if tail < kinds::least_tail(d, k) {
-                return gap(p, 0);
-            }
-            Item {
-                kind: ItemKind::Frame(k),
-                octets: o,
-                start: p,
-                length: tail,
-                verdict: verdict,
-            }
-        }
-        Found::Nothing => gap(p, 0),
+    let verdict = verdict::verdict_in(octets, kind, capture.terms, x, masks);
+    if !allowed::allowed_in(kind, x, verdict) {
+        return None;
     }
+    let tail = tails::tail_at(capture, behind);
+    if tail < kinds::least_tail(capture.terms.direction, kind) {
+        return None;
+    }
+    Some(Frame {
+        kind: kind,
+        octets: octets,
+        start: p,
+        tail: tail,
+        verdict: verdict,
+    })
 }
 
 // Whether a frame starts a run at q: judged in context 0.
-fn starts_at(s: &[u8], n: usize, t: Terms, q: usize, masks: &mut [u64]) -> bool
-    requires { (q ≤ n) × (n ≤ 8 * length s.now) × (length s.now ≤ 65536) × Kept masks.old }
-    ensures { Starting (capture_of s.now n t) q result × Kept masks.new }
+fn starts_at(capture: &Capture<'_>, q: usize, masks: &mut Masks) -> bool
+    requires { q ≤ capture.now.bits }
+    ensures { Starting (capture_of capture.now) q result }
 {
-    let i = frame_at(s, n, t, q, 0, masks);
-    let kind = i.kind;
-    match kind {
-        ItemKind::Frame(_) => true,
-        ItemKind::Gap => false,
-    }
+    let seen = frame_at(capture, q, 0, masks);
+    seen.is_some()
 }
 
 // The fixed ones that every pattern which can start a run has in common behind its first nine bits.
-const SYNC: [u8; 8] = [32, 48, 64, 80, 96, 112, 128, 144];
+static SYNC: [u8; 8] = [32, 48, 64, 80, 96, 112, 128, 144];
 
-// The first place from `from` on where a frame starts a run, or n. Places without eight zeros and a one are stepped over by the byte; any other is left at
-// the first fixed bit that differs.
-fn gap_end(s: &[u8], n: usize, t: Terms, from: usize, masks: &mut [u64]) -> usize
-    requires { (from ≤ n) × (n ≤ 8 * length s.now) × (length s.now ≤ 65536) × Kept masks.old }
-    ensures { GapEnd (capture_of s.now n t) from result × Kept masks.new }
+// The first place from `from` on where a frame starts a run, or the end. Places without eight zeros and a one are stepped over by the byte; any other is left
+// at the first fixed bit that differs.
+fn gap_end(capture: &Capture<'_>, from: usize, masks: &mut Masks) -> usize
+    requires { from ≤ capture.now.bits }
+    ensures { GapEnd (capture_of capture.now) from result }
 {
-    let sync = SYNC;
+    let bytes = capture.bytes;
+    let n = capture.bits;
     let mut q = from;
+    // By hand: the place jumps, so no range counts it.
     'places: while q + 158 <= n {
-        q = sync::sync_from(s, q, n - 158);
+        q = sync::sync_from(bytes, q, n - 158);
         if n < q + 158 {
             return n;
         }
-        for j in 0..8 {
-            let place = q + sync[j] as usize;
-            if !bits::bit(s, place) {
+        for place in &SYNC {
+            if !bits::bit(bytes, q + *place as usize) {
                 q += 1;
                 continue 'places;
             }
         }
-        if starts_at(s, n, t, q, masks) {
+        if starts_at(capture, q, masks) {
             return q;
         }
         q += 1; // no frame starts a run here
@@ -101,20 +79,18 @@ fn gap_end(s: &[u8], n: usize, t: Terms, from: usize, masks: &mut [u64]) -> usiz
     n
 }
 
-// The item at a cursor before n: the frame that is due there, else the gap to the next place where a frame starts a run, or to n.
-pub fn item_at(s: &[u8], n: usize, t: Terms, c: Cursor, masks: &mut [u64]) -> Item
-    requires { (c.position < n) × (n ≤ 8 * length s.now) × (length s.now ≤ 65536) × Kept masks.old }
-    ensures { ItemAt (capture_of s.now n t) (cursor_of c) result × Kept masks.new }
+// The item at a cursor before the end: the frame that is due there, else the gap to the next place where a frame starts a run, or to the end.
+pub fn item_at(capture: &Capture<'_>, c: Cursor, masks: &mut Masks) -> Item
+    requires { c.position < capture.now.bits }
+    ensures { ItemAt (capture_of capture.now) (cursor_of c) result }
 {
-    let p = c.position;
-    let x = c.context;
-    let i = frame_at(s, n, t, p, x, masks);
-    let kind = i.kind;
-    match kind {
-        ItemKind::Frame(_) => i,
-        ItemKind::Gap => {
-            let end = gap_end(s, n, t, p + 1, masks);
-            gap(p, end - p)
-        }
+    let start = c.position;
+    if let Some(frame) = frame_at(capture, start, c.context, masks) {
+        return Item::Frame(frame);
+    }
+    let end = gap_end(capture, start + 1, masks);
+    Item::Gap {
+        start: start,
+        length: end - start,
     }
 }

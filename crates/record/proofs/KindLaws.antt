@@ -1,19 +1,14 @@
--- What definitions say of the eight kinds: control by its places, extended by the number of the kind, as the code asks it.
+-- What holds of each of the eight kinds holds of any, and what holds of the places of control.
 -- Assumes nothing.
-use mathlib.Core.Path.{◌≡◌, refl}
-use mathlib.Core.Bool.{cond}
-use mathlib.Core.List.{List, ◌++◌}
+use mathlib.Core.List.{List}
 use Prim.Native.Nat.{ℕ, ◌≤◌}
-use lib.Dec.{eqb, lit≤}
-use lib.ListN.{length, take}
+use lib.Dec.{lit≤}
+use lib.ListN.{length}
 use Rattle.fields.specs.Below.{Below}
 use Rattle.fields.proofs.BelowLaws.{listed_below}
 use Rattle.channel.specs.declared.Kind.{Kind}
 use Rattle.channel.specs.declared.Kind.TheVariants.{Speech, Data, Om, Configuration, NoSpeech, Lower, Amr670, Amr740}
-use Rattle.channel.specs.Kinds.{kind_no}
-use Rattle.channel.specs.Places.{xc_places, crc_places}
-use Rattle.channel.specs.Coding.{Word, bits_at}
-use Rattle.channel.specs.Control.{from_top, control_places, extended}
+use Rattle.channel.specs.Control.{control_places}
 
 -- what holds of each of the eight kinds holds of any
 pub of-each : (P : Kind → Type 0) → P Speech → P Data → P Om → P Configuration → P NoSpeech → P Lower → P Amr670 → P Amr740 → (k : Kind) → P k
@@ -38,11 +33,3 @@ control-few =
     let low : InByte (control_places Lower) = (listed_below 160 (control_places Lower) tt, lit≤ tt) in
     let amr : InByte (control_places Amr670) = (listed_below 160 (control_places Amr670) tt, lit≤ tt) in
     of-each (λ k. InByte (control_places k)) speech hr hr hr low low amr amr
-
--- extended: kind 1 its list of places, kind 3 the byte 248, others 0
-abbrev extended_no : Word → ℕ → ℕ
-extended_no g n = cond (eqb n 1) (from_top (bits_at g (take 5 xc_places ++ crc_places))) (cond (eqb n 3) 248 0)
-
-pub extended_no_lem : (g : Word) (k : Kind) → extended g k ≡ extended_no g (kind_no k)
-unfolding extended
-extended_no_lem g = of-each (λ k. extended g k ≡ extended_no g (kind_no k)) refl refl refl refl refl refl refl refl

@@ -2,11 +2,10 @@
 -- Assumes nothing.
 use mathlib.Core.Path.{◌≡◌, ap, sym, ◌∙◌}
 use mathlib.Core.List.{List, [], ◌∷◌, ◌++◌, map}
-use Prim.Native.Nat.{ℕ, zero, suc, ◌+◌, ◌*◌, ◌/◌, ◌%◌, ◌-◌, ◌<◌, ◌≤◌}
-use native.Mathlib.Nat.{mod-lt, add-zero}
+use Prim.Native.Nat.{ℕ, zero, suc, ◌+◌, ◌*◌, ◌/◌, ◌%◌, ◌<◌, ◌≤◌}
+use native.Mathlib.Nat.{add-zero}
 use borrow.Author.Count.{below_more}
 use native.Mathlib.Omega.{arith}
-use lib.Dec.{lit<}
 use lib.ListN.{length, get_or, drop}
 use lib.Seq.{drop-cons}
 use Rattle.bits.specs.Bit.{bit_at, count}
@@ -19,22 +18,6 @@ use Rattle.scatter.proofs.PlaceLaws.{places_append, places_run}
 -- so many places the run that begins at number j may have
 abbrev pub Room : List ℕ → ℕ → ℕ → Type 0
 Room ps j most = (0 < most) × (j + most ≤ length ps) × (get_or ps j 0 % 8 + most ≤ 8) × (j % 8 + most ≤ 8)
-
-sub_pos : {a b : ℕ} → a < b → 0 < b - a
-sub_pos l = omega arith
-
-least-is : (a b r : ℕ) → 0 < a → 0 < b → r ≡ a - (a - b) → (0 < r) × (r ≤ a) × (r ≤ b)
-least-is a b r h l e = (omega arith, omega arith, omega arith)
-
-room_of : (p q n j x most : ℕ) → p < 8 → q < 8 → j < n → (0 < x) × (x ≤ 8 - p) × (x ≤ 8 - q) → (0 < most) × (most ≤ x) × (most ≤ n - j) → (0 < most) × (j + most ≤ n) × (p + most ≤ 8) × (q + most ≤ 8)
-room_of p q n j x most hp hq l s t = (t.0, omega arith, omega arith, omega arith)
-
-pub room-is : (ps : List ℕ) (j x most : ℕ) → j < length ps → x ≡ (8 - get_or ps j 0 % 8) - ((8 - get_or ps j 0 % 8) - (8 - j % 8)) → most ≡ x - (x - (length ps - j)) → Room ps j most
-room-is ps j x most l ex em =
-    let hp = mod-lt (get_or ps j 0) (lit< {m = 0} {n = 8} tt) in
-    let hq = mod-lt j (lit< {m = 0} {n = 8} tt) in
-    let s = least-is (8 - get_or ps j 0 % 8) (8 - j % 8) x (sub_pos hp) (sub_pos hq) ex in
-    room_of (get_or ps j 0 % 8) (j % 8) (length ps) j x most hp hq l s (least-is x (length ps - j) most s.0 (sub_pos l) em)
 
 pub run_first : (ps : List ℕ) (j : ℕ) → j < length ps → RunAt ps j 1
 run_first ps j l =

@@ -1,17 +1,10 @@
 // The bits of some bytes put at the places of a frame, eight places for each byte.
 #![tactic(auto)]
 
-ghost use Rattle.std.specs.Prelude.{◌≡◌, ◌+◌, ◌*◌, ◌-◌, ◌<◌, ◌≤◌, length};
+ghost use Rattle.std.specs.Prelude.{◌≡◌, ◌*◌, ◌<◌, ◌≤◌, length};
 ghost use Rattle.bits.specs.Bit.{bit_at};
 ghost use Rattle.fields.specs.Below.{Below};
 ghost use Rattle.scatter.specs.Scatter.{RunAt, put_places};
-
-// The smaller of two numbers.
-pub fn least(a: usize, b: usize) -> usize
-    ensures { result ≡ a - (a - b) }
-{
-    if a < b { a } else { b }
-}
 
 // How many places from number j on follow each other in one octet and get bits of one byte.
 fn run_at(places: &[u8], j: usize) -> usize
@@ -19,7 +12,8 @@ fn run_at(places: &[u8], j: usize) -> usize
     ensures { RunAt places.now j result }
 {
     let p = places[j] as usize;
-    let most = least(least(8 - p % 8, 8 - j % 8), places.len() - j);
+    let most = (8 - p % 8).min(8 - j % 8).min(places.len() - j);
+    // The number is the answer, so a chain over parts of the places says it no plainer.
     for r in 1..most {
         if places[j + r] as usize != p + r {
             return r;
@@ -35,6 +29,7 @@ pub fn at_places(o: [u8; 20], places: &[u8], from: &[u8]) -> [u8; 20]
 {
     let mut octets = o;
     let mut j: usize = 0;
+    // By hand, since a turn passes as many places as the run has.
     while j < places.len() {
         let p = places[j] as usize;
         let r = run_at(places, j);

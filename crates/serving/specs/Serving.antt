@@ -1,6 +1,6 @@
 -- Opening, paging and closing a session in a lent list (document 02, Ask 5).
 -- Assumes nothing.
-use Rattle.std.specs.Prelude.{◌≡◌, Bool, cond, List, ℕ, zero, suc, eqb, ltb, length, get_or, set}
+use Rattle.std.specs.Prelude.{◌≡◌, Bool, cond, List, ℕ, zero, suc, ltb, length, get_or, set, is_none}
 use Rattle.sessions.specs.declared.Session.{Session}
 use Rattle.sessions.specs.declared.Found.{Found}
 use Rattle.sessions.specs.Sessions.{blank, holds, free_at, found_in}
@@ -28,7 +28,7 @@ open_refusal found places direction =
     cond (too_long places) 2
     (cond (ltb 1 direction) 1
     (cond found.held 9
-    (cond (eqb found.free places) 8 0)))
+    (cond (is_none found.free) 8 0)))
 
 -- the session that opening stores: the cursor at bit 0, context 0
 abbrev pub new_session : ℕ → ℕ → ℕ → Session

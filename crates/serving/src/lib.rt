@@ -1,13 +1,13 @@
-// What opening, closing and paging a session decide of what stands at a place of the list, by value: what stands there after, and what is answered.
+// Opening, closing and paging a session: what each decides of what stands at a place of the list, by value, and does in the list then.
 #![tactic(auto)]
 
-ghost use Rattle.std.specs.Prelude.{◌≡◌};
-ghost use Rattle.dplaces.specs.DPlaces.{Lent};
-ghost use Rattle.call.specs.Call.{next};
-ghost use Rattle.serving.specs.Serving.{too_long, zeros, new_session, open_refusal, name_refusal, request_of, moved_to};
-ghost use Rattle.serving.specs.Decided.{opening_of, closing_of, refused_page, PagedAt};
+ghost use Rattle.std.specs.Prelude.{◌≡◌, IfOk};
+ghost use Rattle.call.specs.Call.{next, number_in};
+ghost use Rattle.serving.specs.Serving.{too_long, zeros, new_session, open_refusal, name_refusal, request_of, moved_to, OpenCall, SessionPageCall, CloseCall};
+ghost use Rattle.serving.specs.Decided.{OpeningOf, ClosingOf, PagedAt};
 
-use call::{Answer, CursorNumbers, PageRequest};
+use call::{Answer, CursorNumbers, PageRequest, Refusal};
+use dplaces::PlaceTable;
 use sessions::{Found, Session};
 
 // What opening answers: its number (0, or that of the refusal), and the place taken, 0 where it is refused.
@@ -18,19 +18,11 @@ pub struct Opened {
     pub place: u64,
 }
 
-// What comes of opening: where the session is stored (behind the list where it is refused), the session, and what is answered.
+// What comes of opening: the place that is taken, and the session that stands there then.
 #[derive(Clone, Copy)]
 pub struct Opening {
     pub place: usize,
     pub session: Session,
-    pub opened: Opened,
-}
-
-// What comes of closing: what stands at the place after, and the number.
-#[derive(Clone, Copy)]
-pub struct Closing {
-    pub session: Session,
-    pub number: u64,
 }
 
 // What a call brings for a page besides the capture's bytes and the buffer; direction and cursor are the session's.
@@ -65,11 +57,11 @@ fn new_session(key: u64, capture: u64, direction: u64) -> Session
     let begin = zeros();
     Session {
         used: 1,
-        key: key,
+        key,
         position: begin.position,
         context: begin.context,
-        capture: capture,
-        direction: direction,
+        capture,
+        direction,
     }
 }
 
@@ -80,92 +72,59 @@ fn too_long(places: usize) -> bool
     32 < places
 }
 
-// The number of an opening in a list of so many places: 2, 1, 9, 8 in this order, or 0.
-fn open_refusal(found: Found, places: usize, direction: u64) -> u64
-    ensures { result ≡ open_refusal found places direction }
+// The place that an opening takes in a list of so many places; 2, 1, 9, 8 in this order refuse it.
+fn place_to_open(found: Found, places: usize, direction: u64) -> Result<usize, Refusal>
+    ensures number { number_in result ≡ open_refusal found places direction }
+    ensures place { IfOk result (λ place. found.free ≡ Some place) }
 {
-    let held = found.held;
-    let free = found.free;
     if too_long(places) {
-        return 2;
+        return Err(Refusal::TooLong);
     }
     if 1 < direction {
-        return 1;
+        return Err(Refusal::NotARequest);
     }
-    if held {
-        return 9;
+    if found.held {
+        return Err(Refusal::KeyPresent);
     }
-    if free == places {
-        return 8;
-    }
-    0
+    found.free.ok_or(Refusal::Full)
 }
 
 // Opening, by what was found in a list of so many places.
-pub fn open_in(found: Found, places: usize, key: u64, capture: u64, direction: u64) -> Opening
-    ensures { result ≡ opening_of found places key capture direction }
+pub fn open_in(
+    found: Found,
+    places: usize,
+    key: u64,
+    capture: u64,
+    direction: u64,
+) -> Result<Opening, Refusal>
+    ensures { OpeningOf found places key capture direction result }
 {
-    let session = new_session(key, capture, direction);
-    let number = open_refusal(found, places, direction);
-    if number != 0 {
-        return Opening {
-            place: places,
-            session: session,
-            opened: Opened {
-                number: number,
-                place: 0,
-            },
-        };
-    }
-    Opening {
-        place: found.free,
-        session: session,
-        opened: Opened {
-            number: 0,
-            place: found.free as u64,
-        },
-    }
+    let place = place_to_open(found, places, direction)?;
+    Ok(Opening {
+        place,
+        session: new_session(key, capture, direction),
+    })
 }
 
-// The number of a call that names a place and a key: 2, then 10 where no session of that key stands there, or 0. A place outside the list stands as a free
+// Whether a call that names a place and a key is refused: 2, then 10 where no session of that key stands there. A place outside the list stands as a free
 // one.
-fn name_refusal(session: Session, places: usize, key: u64) -> u64
-    ensures { result ≡ name_refusal session places key }
+fn name_refusal(session: Session, places: usize, key: u64) -> Result<(), Refusal>
+    ensures { number_in result ≡ name_refusal session places key }
 {
     if too_long(places) {
-        return 2;
+        return Err(Refusal::TooLong);
     }
-    if session.used == 0 {
-        return 10;
+    if session.used == 0 || session.key != key {
+        return Err(Refusal::NoSession);
     }
-    if session.key != key {
-        return 10;
-    }
-    0
+    Ok(())
 }
 
-// Closing, by what stands at the place named in a list of so many places: the place becomes free.
-pub fn close_at(session: Session, places: usize, key: u64) -> Closing
-    ensures { result ≡ closing_of session places key }
+// Closing, by what stands at the place named in a list of so many places: what stands there after, for the place becomes free.
+pub fn close_at(session: Session, places: usize, key: u64) -> Result<Session, Refusal>
+    ensures { ClosingOf session places key result }
 {
-    let number = name_refusal(session, places, key);
-    if number != 0 {
-        return Closing {
-            session: session,
-            number: number,
-        };
-    }
-    Closing {
-        session: Session {
-            used: 0,
-            key: 0,
-            position: 0,
-            context: 0,
-            capture: 0,
-            direction: 0,
-        },
-        number: 0,
-    }
+    name_refusal(session, places, key).map(|()| Session::BLANK)
 }
 
 // What is asked of a page, by the session and by the call.
@@ -187,47 +146,94 @@ fn moved(session: Session, a: Answer) -> Session
     ensures { result ≡ moved_to session (next a) }
 {
     Session {
-        used: session.used,
-        key: session.key,
         position: a.position,
         context: a.context,
-        capture: session.capture,
-        direction: session.direction,
-    }
-}
-
-// A page of a place that the key does not hold: it stands. The cursor answered is zeros, for what stands there is somebody else's.
-fn refused(stands: Session, number: u64) -> Paged
-    ensures { result ≡ refused_page stands number }
-{
-    let nowhere = zeros();
-    let answer = call::refuse(number, 0, nowhere);
-    Paged {
-        session: stands,
-        answer: answer,
+        ..session
     }
 }
 
 // A page, by what stands at the place named in a list of so many places: the session keeps the cursor that is answered.
+// (List, place and key come one by one, as C brings them; here one place is looked at by value, so that nothing can be said of others.)
 pub fn page_at(
     session: Session,
     places: usize,
     key: u64,
     capture: &[u8],
     brought: Brought,
-    table: &[u8],
+    table: Option<PlaceTable>,
     buffer: &mut [u8],
-) -> Paged
-    requires { Lent table.now }
+) -> Result<Paged, Refusal>
     ensures { PagedAt session places key capture.now brought buffer.old result buffer.new }
 {
-    let refusal = name_refusal(session, places, key);
-    if refusal != 0 {
-        return refused(session, refusal);
-    }
+    name_refusal(session, places, key)?;
     let answer = paging::page(capture, request(session, brought), table, buffer);
-    Paged {
+    Ok(Paged {
         session: moved(session, answer),
-        answer: answer,
+        answer,
+    })
+}
+
+// A session opened in the list: its place.
+pub fn open(sessions: &mut [Session], key: u64, capture: u64, direction: u64) -> Opened
+    ensures { OpenCall sessions.old key capture direction result sessions.new }
+{
+    let found = sessions::find(sessions, key);
+    match open_in(found, sessions.len(), key, capture, direction) {
+        Ok(opening) => {
+            sessions::store(sessions, opening.place, opening.session);
+            Opened {
+                number: 0,
+                place: opening.place as u64,
+            }
+        }
+        Err(why) => Opened {
+            number: why.number(),
+            place: 0,
+        },
+    }
+}
+
+// A page of the session at a place: as `paging::page` with the session's direction and cursor; the session keeps the cursor that is answered. Where the key
+// does not hold the place the cursor answered is zeros, for what stands there is somebody else's.
+pub fn page(
+    sessions: &mut [Session],
+    place: usize,
+    key: u64,
+    capture: &[u8],
+    brought: Brought,
+    table: Option<PlaceTable>,
+    buffer: &mut [u8],
+) -> Answer
+    ensures { SessionPageCall sessions.old place key capture.now brought buffer.old result buffer.new sessions.new }
+{
+    let session = sessions::at(sessions, place);
+    match page_at(
+        session,
+        sessions.len(),
+        key,
+        capture,
+        brought,
+        table,
+        buffer,
+    ) {
+        Ok(paged) => {
+            sessions::store(sessions, place, paged.session);
+            paged.answer
+        }
+        Err(why) => why.answer(0, zeros()),
+    }
+}
+
+// The session at a place closed: the place is free.
+pub fn close(sessions: &mut [Session], place: usize, key: u64) -> u64
+    ensures { CloseCall sessions.old place key result sessions.new }
+{
+    let session = sessions::at(sessions, place);
+    match close_at(session, sessions.len(), key) {
+        Ok(left) => {
+            sessions::store(sessions, place, left);
+            0
+        }
+        Err(why) => why.number(),
     }
 }

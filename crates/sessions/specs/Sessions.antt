@@ -1,6 +1,7 @@
 -- A lent list of sessions (document 02, Ask 5): each place is free, or holds a key, a cursor, a capture number and a direction.
 -- Assumes nothing.
-use Rattle.std.specs.Prelude.{Bool, false, cond, ◌||◌, ◌&&◌, not, List, [], ◌∷◌, ℕ, suc, eqb}
+use Rattle.std.specs.Prelude.{Bool, ◌&&◌, not, List, ℕ, eqb}
+use Rattle.std.specs.List.{position, position_or_len, list_any}
 use Rattle.sessions.specs.declared.Session.{Session}
 use Rattle.sessions.specs.declared.Found.{Found}
 
@@ -17,15 +18,13 @@ abbrev pub holds : Session → ℕ → Bool
 holds s key = not (is_free s) && eqb s.key key
 
 -- the lowest free place; the number of places where there is none
-unfoldable pub free_at : List Session → ℕ
-free_at [] = 0
-free_at (s ∷ ss) = let r : ℕ = suc (free_at ss) in cond (is_free s) 0 r
+abbrev pub free_at : List Session → ℕ
+free_at ss = position_or_len is_free ss
 
 -- the key is already present
-unfoldable pub held_in : List Session → ℕ → Bool
-held_in [] key = false
-held_in (s ∷ ss) key = let r : Bool = held_in ss key in holds s key || r
+abbrev pub held_in : List Session → ℕ → Bool
+held_in ss key = list_any (λ s. holds s key) ss
 
 -- what a search finds
 abbrev pub found_in : List Session → ℕ → Found
-found_in ss key = record { free = free_at ss; held = held_in ss key }
+found_in ss key = record { free = position is_free ss; held = held_in ss key }

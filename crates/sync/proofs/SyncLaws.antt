@@ -2,17 +2,17 @@
 -- Assumes nothing.
 use mathlib.Core.Path.{◌≡◌, sym, ◌∙◌, ap, subst}
 use mathlib.Core.Logic.{◌⊎◌, inl, inr, by_cases}
-use mathlib.Core.Bool.{Bool, true}
+use mathlib.Core.Bool.{Bool}
 use mathlib.Core.List.{List}
 use Prim.Native.Nat.{ℕ, zero, suc, ◌+◌, ◌*◌, ◌-◌, ◌/◌, ◌%◌, ◌^◌, ◌<◌, ◌≤◌}
 use native.Mathlib.Omega.{arith}
-use borrow.Author.Tests.{eqb-true}
 use lib.Dec.{eqb}
+use Rattle.std.proofs.Common.{Fits, w8}
 use native.Mathlib.Nat.{zero-div, zero-mod, zero-mul, div-eq_of_lt, div-eq_of_lt-le, pow-suc, mod-lt, add-zero, mul-mod_left}
 use native.Mathlib.Decide.{dec_lt}
 use lib.Count.{count_leading_zeros, leading_unique, leading_length}
 use lib.ListN.{get_or}
-use lib.Pow.{pow_pos, pow-lt, pow_mono, split, shr-shr, shl-shr, field, mod-pow-add, mod-mod-pow}
+use lib.Pow.{pow_pos, pow-lt, split, shr-shr, shl-shr, field, mod-pow-add, mod-mod-pow}
 use Rattle.bits.specs.Bit.{bit_at, to_n}
 use Rattle.sync.specs.Sync.{Synced, SyncedIn, SyncFrom}
 use Rattle.bits.proofs.BitLaws.{to_n-one, byte-bit}
@@ -50,7 +50,7 @@ one_below k b hb l h one =
     omega arith
 
 -- so much of the two bytes is told by eight zeros and a one
-module _ (s : List ℕ) (fits : (k : ℕ) → get_or s k 0 < 256) (i k : ℕ) (l : k < 8) (h : Synced (bit_at s) (8 * i + k)) where
+module _ (s : List ℕ) (fits : (k : ℕ) → Fits w8 (get_or s k 0)) (i k : ℕ) (l : k < 8) (h : Synced (bit_at s) (8 * i + k)) where
   zero_bit : (m j : ℕ) → j < 8 → (8 * m + j < 8 * i + k → ⊥) → 8 * m + j < 8 * i + k + 8 → get_or s m 0 / 2 ^ (7 - j) % 2 ≡ 0
   zero_bit m j hj a b =
       let e : 8 * i + k + (8 * m + j - (8 * i + k)) ≡ 8 * m + j = omega arith in
@@ -62,7 +62,7 @@ module _ (s : List ℕ) (fits : (k : ℕ) → get_or s k 0 < 256) (i k : ℕ) (l
   second-byte : get_or s (i + 1) 0 / 2 ^ (7 - k) ≡ 1
   second-byte =
       let e : 8 * i + k + 8 ≡ 8 * (i + 1) + k = omega arith in
-      one_below k (get_or s (i + 1) 0) (fits (i + 1)) l (λ j m. zero_bit (i + 1) j (omega arith) (λ n. omega arith) (omega arith))
+      one_below k (get_or s (i + 1) 0) (fits (i + 1)).fits l (λ j m. zero_bit (i + 1) j (omega arith) (λ n. omega arith) (omega arith))
       (byte-bit s (i + 1) k l ∙ ap to_n (rw e at h.one))
 
   in_bytes : SyncedIn (get_or s i 0) (get_or s (i + 1) 0) k
@@ -98,37 +98,20 @@ odd-none a k l odd h =
     let z : 0 % 2 ≡ a % 2 = rw h at f in
     omega arith
 
--- nor does one before a byte without a one
-pub nil-none : (b k : ℕ) → eqb b 0 ≡ true → b / 2 ^ (7 - k) ≡ 1 → ⊥
-nil-none b k e h =
-    let z : b ≡ 0 = eqb-true b 0 e in
-    let f : 0 / 2 ^ (7 - k) ≡ 1 = rw z at h in
-    omega (arith, zero-div (2 ^ (7 - k)))
-
--- the leading zeros of a byte are 24 or more
-pub byte_leading : (b : ℕ) → b < 256 → 24 ≤ count_leading_zeros 32 b
-byte_leading b h =
-    let t = leading_length 32 b (omega arith) in
-    by_cases (dec_lt t.0 9)
-    (λ (m : t.0 < 9). omega (arith, t.1))
-    (λ (m : ¬ (t.0 < 9)).
-    let p : 2 ^ 9 ≤ 2 ^ t.0 = pow_mono {i = 9} {j = t.0} (omega arith) in
-    absurd (omega (arith, t.3)))
-
 -- the place is the number of the second byte's leading zeros
-pub place_told : (b k : ℕ) → k < 8 → b / 2 ^ (7 - k) ≡ 1 → count_leading_zeros 32 b ≡ 24 + k
+pub place_told : (b k : ℕ) → k < 8 → b / 2 ^ (7 - k) ≡ 1 → count_leading_zeros 8 b ≡ k
 place_told b k l h =
     let parts : b / 2 ^ (7 - k) * 2 ^ (7 - k) + b % 2 ^ (7 - k) ≡ b = split b (7 - k) in
     let parts' : 1 * 2 ^ (7 - k) + b % 2 ^ (7 - k) ≡ b = rw h at parts in
     let small : b % 2 ^ (7 - k) < 2 ^ (7 - k) = mod-lt b (pow_pos (7 - k)) in
     let e : suc (7 - k) ≡ 8 - k = omega arith in
     let twice : 2 ^ (8 - k) ≡ 2 ^ (7 - k) * 2 = rw e at (pow-suc 2 (7 - k)) in
-    sym (leading_unique 32 b (24 + k) (8 - k) (omega arith) (omega arith) (omega arith))
+    sym (leading_unique 8 b k (8 - k) (omega arith) (omega arith) (omega arith))
 
 -- which in turn tell of its one
-pub told_place : (b k : ℕ) → b < 256 → k < 8 → count_leading_zeros 32 b ≡ 24 + k → b / 2 ^ (7 - k) ≡ 1
+pub told_place : (b k : ℕ) → b < 256 → k < 8 → count_leading_zeros 8 b ≡ k → b / 2 ^ (7 - k) ≡ 1
 told_place b k hb l h =
-    let t = leading_length 32 b (omega arith) in
+    let t = leading_length 8 b (omega arith) in
     let e : t.0 ≡ suc (7 - k) = omega (arith, t.1) in
     let below : b < 2 ^ suc (7 - k) = rw e at t.2 in
     let above : 2 ^ suc (7 - k) ≤ 2 * b + 1 = rw e at t.3 in
@@ -153,29 +136,23 @@ out_shifted a k l h =
 abbrev pub Before : List ℕ → ℕ → ℕ → Type 0
 Before s q p = (r : ℕ) → q ≤ r → r < p → Synced (bit_at s) r → ⊥
 
-module _ (s : List ℕ) (fits : (k : ℕ) → get_or s k 0 < 256) (i q k : ℕ)
-    (told : (j : ℕ) → j < 8 → SyncedIn (get_or s i 0) (get_or s (i + 1) 0) j → k ≡ j) (so_far : Before s q (8 * i)) where
-  -- where they stand in byte i is the place told
-  place_is : (r : ℕ) → 8 * i ≤ r → r < 8 * i + 8 → Synced (bit_at s) r → 8 * i + k ≡ r
-  place_is r a b h =
-      let e : r ≡ 8 * i + (r - 8 * i) = omega arith in
-      let h' : Synced (bit_at s) (8 * i + (r - 8 * i)) = subst (Synced (bit_at s)) e h in
-      omega (arith, told (r - 8 * i) (omega arith) (in_bytes s fits i (r - 8 * i) (omega arith) h'))
+-- nor before place m of byte i, where each place of that byte from q on that has them is m or behind it
+pub byte_passed : (s : List ℕ) → ((k : ℕ) → Fits w8 (get_or s k 0)) → (i q m : ℕ) → m ≤ 8
+    → ((j : ℕ) → j < 8 → SyncedIn (get_or s i 0) (get_or s (i + 1) 0) j → q ≤ 8 * i + j → m ≤ j) → Before s q (8 * i) → Before s q (8 * i + m)
+byte_passed s fits i q m l told so_far r a b h =
+    by_cases (dec_lt r (8 * i))
+    (λ (n : r < 8 * i). so_far r a n h)
+    (λ (n : ¬ (r < 8 * i)).
+    let e : r ≡ 8 * i + (r - 8 * i) = omega arith in
+    let h' : Synced (bit_at s) (8 * i + (r - 8 * i)) = subst (Synced (bit_at s)) e h in
+    omega (arith, told (r - 8 * i) (omega arith) (in_bytes s fits i (r - 8 * i) (omega arith) h') (omega arith)))
 
-  pub byte_passed : (k < 8 → 8 * i + k < q) → Before s q (8 * (i + 1))
-  byte_passed out r a b h =
-      by_cases (dec_lt r (8 * i))
-      (λ (m : r < 8 * i). so_far r a m h)
-      (λ (m : ¬ (r < 8 * i)).
-      let e : 8 * i + k ≡ r = place_is r (omega arith) (omega arith) h in
-      let n : 8 * i + k < q = out (omega arith) in
-      omega arith)
-
-  pub byte-stops : k ≤ 8 → Before s q (8 * i + k)
-  byte-stops l r a b h =
-      by_cases (dec_lt r (8 * i))
-      (λ (m : r < 8 * i). so_far r a m h)
-      (λ (m : ¬ (r < 8 * i)). let e : 8 * i + k ≡ r = place_is r (omega arith) (omega arith) h in omega arith)
+-- nor in byte i, where it has them at no place from q on
+pub byte_none : (s : List ℕ) → ((k : ℕ) → Fits w8 (get_or s k 0)) → (i q : ℕ)
+    → ((j : ℕ) → j < 8 → SyncedIn (get_or s i 0) (get_or s (i + 1) 0) j → q ≤ 8 * i + j → ⊥) → Before s q (8 * i) → Before s q (8 * (i + 1))
+byte_none s fits i q out so_far =
+    let next : 8 * (i + 1) ≡ 8 * i + 8 = omega arith in
+    rw next (byte_passed s fits i q 8 (omega arith) (λ j l h from. absurd (out j l h from)) so_far)
 
 sync-short : (f : ℕ → Bool) (q last r t : ℕ) → SyncFrom f q last r → SyncFrom f q last t → r < t → ⊥
 sync-short f q last r t a b l = go a.stops

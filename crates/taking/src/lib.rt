@@ -1,22 +1,41 @@
 // Records taken one by one, up to the first that fails.
 #![tactic(auto)]
 
-ghost use Rattle.std.specs.Prelude.{◌≤◌, length};
-ghost use Rattle.plans.specs.Plan.{Plans};
-ghost use Rattle.masks.specs.Kept.{Kept};
+ghost use Rattle.std.specs.Prelude.{◌≤◌, ◌<◌, length};
+ghost use Rattle.call.specs.Call.{number_in};
 ghost use Rattle.item.specs.Item.{cursor_of};
 ghost use Rattle.taken.specs.Judged.{JudgedAs};
+ghost use Rattle.taking.specs.Turn.{Turn};
 
+use call::Refusal;
 use channel::Terms;
-use item::{Cursor, ItemKind};
-use parse::RecordKind;
+use item::{Cursor, Frame, Item};
+use masks::Masks;
+use plans::Plans;
 
-// What comes of records: the number that decides, how many are taken before it, and the cursor moved on over them.
+// What comes of records: whether one is refused and why, how many are taken before it, and the cursor moved on over them.
 #[derive(Clone, Copy)]
 pub struct Judged {
-    pub number: u64,
+    pub outcome: Result<(), Refusal>,
     pub items: u64,
     pub cursor: Cursor,
+}
+
+// Takes the record in front of some bytes at a cursor, as that of a frame, or says why it is refused.
+fn take(
+    part: &[u8],
+    t: Terms,
+    c: Cursor,
+    bits: usize,
+    masks: &mut Masks,
+    plans: &mut Plans,
+) -> Result<Frame, Refusal>
+    requires { 0 < length part.now }
+    ensures { Turn t bits (cursor_of c) part.now result }
+{
+    let f = judge::frame_of(part, t, plans).ok_or(Refusal::Unsound)?;
+    due::number(&f, t, c, bits, masks)?;
+    Ok(f)
 }
 
 // Judges the records one by one, up to the first that fails.
@@ -25,45 +44,34 @@ pub fn judge_all(
     t: Terms,
     c: Cursor,
     bits: usize,
-    masks: &mut [u64],
-    table: &[u8],
-    plan: &mut [u32],
+    masks: &mut Masks,
+    plans: &mut Plans,
 ) -> Judged
-    requires { (length records.now ≤ 65536) × Kept masks.old × Plans table.now plan.old }
-    ensures { JudgedAs t bits (cursor_of c) records.now result.number result.items (cursor_of result.cursor) × Plans table.now plan.new }
+    requires { length records.now ≤ 65536 }
+    ensures { JudgedAs t bits (cursor_of c) records.now (number_in result.outcome) result.items (cursor_of result.cursor) }
 {
     let mut items: u64 = 0;
-    let mut at: usize = 0;
+    let mut rest = records;
     let mut cursor = c;
-    while at < records.len() {
-        let r = judge::frame_of(&records[at..], t, table, plan);
-        let kind = r.kind;
-        match kind {
-            RecordKind::Frame(k) => {
-                let number = due::number(r, k, t, cursor, bits, masks);
-                if number != 0 {
-                    return Judged {
-                        number: number,
-                        items: items,
-                        cursor: cursor,
-                    };
-                }
-                cursor = cursor.over(r.frame(k));
-                at += record::size(ItemKind::Frame(k));
+    while !rest.is_empty() {
+        match take(rest, t, cursor, bits, masks, plans) {
+            Ok(f) => {
+                cursor = cursor.over(&Item::Frame(f));
+                rest = &rest[record::frame_size(f.kind)..];
                 items += 1;
             }
-            RecordKind::Unsound => {
+            Err(why) => {
                 return Judged {
-                    number: 5,
-                    items: items,
-                    cursor: cursor,
+                    outcome: Err(why),
+                    items,
+                    cursor,
                 };
             }
         }
     }
     Judged {
-        number: 0,
-        items: items,
-        cursor: cursor,
+        outcome: Ok(()),
+        items,
+        cursor,
     }
 }

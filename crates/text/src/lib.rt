@@ -1,18 +1,82 @@
-// Text put together in a lent buffer: bytes at a place, and a number in decimal.
+// A text put together in a buffer of its own: bytes, and a number in decimal, each behind what stands there.
 #![tactic(auto)]
 
-ghost use Rattle.std.specs.Prelude.{◌≡◌, ◌+◌, ◌%◌, ◌≤◌, length, drop};
-ghost use Rattle.text.specs.Text.{decimal_of, Put};
+ghost use Rattle.std.specs.Prelude.{◌≡◌, List, [], ℕ, ◌++◌, ◌+◌, ◌%◌, ◌≤◌, length, take};
+ghost use Rattle.text.specs.Text.{decimal_of};
 
-// Puts some bytes at a place, and answers where they end.
-pub fn put(out: &mut [u8], at: usize, bytes: &[u8]) -> usize
-    requires { at + length bytes.now ≤ length out.old }
-    ensures { Put out.old at bytes.now out.new result }
-{
-    for i in 0..bytes.len() {
-        out[at + i] = bytes[i];
+use std::marker::Model;
+
+// A text of at most N bytes.
+#[derive(Drop)]
+pub struct Text<const N: usize> {
+    bytes: [u8; N],
+    end: usize,
+}
+
+// A contract sees the bytes of the text.
+impl<const N: usize> Model for Text<N> {
+    ghost Value = { List ℕ };
+
+    ghost view = { λ t. take t.end t.bytes };
+
+    ghost invariant = { λ t. t.end ≤ N };
+}
+
+impl<const N: usize> Text<N> {
+    // A text of no bytes.
+    pub fn new() -> Self
+        ensures { result ≡ [] }
+    {
+        Text {
+            bytes: [0; N],
+            end: 0,
+        }
     }
-    at + bytes.len()
+
+    // How many bytes it has.
+    pub fn len(&self) -> usize
+        ensures { result ≡ length self.now }
+    {
+        self.bytes().len()
+    }
+
+    // Its bytes.
+    pub fn bytes(&self) -> &[u8]
+        ensures { result.now ≡ self.now }
+    {
+        &self.bytes[..self.end]
+    }
+
+    // Keeps some of its bytes, those in front.
+    pub fn truncate(&mut self, most: usize)
+        ensures { self.new ≡ take most self.old }
+    {
+        self.end = self.end.min(most);
+    }
+
+    // Puts some bytes behind it.
+    pub fn put(&mut self, bytes: &[u8])
+        requires { length self.old + length bytes.now ≤ N }
+        ensures { self.new ≡ self.old ++ bytes.now }
+    {
+        let to = self.end + bytes.len();
+        let all = &mut self.bytes[..];
+        all[self.end..to].copy_from_slice(bytes);
+        self.end = to;
+    }
+
+    // Puts a number in decimal behind it, the digits of its tens first. What std prints a number by answers a Result, of which no clause says that it is Ok.
+    pub fn put_decimal(&mut self, n: u64)
+        requires { length self.old + 20 ≤ N }
+        ensures upper_bound { length self.new ≤ length self.old + 20 }
+        ensures put { self.new ≡ self.old ++ decimal_of n }
+    {
+        let tens = n / 10;
+        if tens != 0 {
+            self.put_decimal(tens);
+        }
+        self.put(&[digit(n)]);
+    }
 }
 
 // The last decimal digit of a number.
@@ -20,31 +84,4 @@ pub fn digit(n: u64) -> u8
     ensures { result ≡ 48 + n % 10 }
 {
     b'0' + (n % 10) as u8
-}
-
-// Puts the digits of a number at the end of twenty bytes, the last digit first, and answers where they begin.
-fn spell(n: u64, digits: &mut [u8]) -> usize
-    requires { length digits.old ≡ 20 }
-    ensures { (result ≤ 19) × (drop result digits.new ≡ decimal_of n) }
-{
-    let mut from: usize = 19;
-    let mut rest = n;
-    while 9 < rest {
-        digits[from] = digit(rest);
-        from -= 1;
-        rest /= 10;
-    }
-    digits[from] = digit(rest);
-    from
-}
-
-// Puts a number in decimal at a place, and answers where it ends.
-pub fn put_decimal(out: &mut [u8], at: usize, n: u64) -> usize
-    requires { at + 20 ≤ length out.old }
-    ensures upper_bound { result ≤ at + 20 }
-    ensures put { Put out.old at (decimal_of n) out.new result }
-{
-    let mut digits = [0u8; 20];
-    let from = spell(n, &mut digits);
-    put(out, at, &digits[from..])
 }

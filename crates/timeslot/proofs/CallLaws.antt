@@ -1,9 +1,9 @@
--- The calls: which requests are refused, what a refusal leaves, and that no second answer fits.
+-- The calls: which requests are refused, and that no second answer fits.
 -- Assumes nothing.
 use mathlib.Core.Path.{◌≡◌, refl, ap, sym, ◌∙◌}
 use mathlib.Core.Bool.{Bool, true, false, ◌||◌}
 use mathlib.Core.List.{List}
-use Prim.Native.Nat.{ℕ, zero, suc, ◌<◌, ◌≤◌}
+use Prim.Native.Nat.{ℕ, ◌<◌, ◌≤◌}
 use native.Mathlib.Omega.{arith}
 use borrow.Author.Tests.{le-ltb, ltb-false, eqb-false}
 use lib.Dec.{eqb, ltb}
@@ -40,11 +40,3 @@ module _ (k octets bytes : ℕ) (made before : List ℕ) where
   call_one m n x y p q =
       let same : m ≡ n = p.answer ∙ sym q.answer in
       (same, p.left ∙ ap (λ (number : ℕ). after_by number made before) same ∙ sym q.left)
-
-  -- a refusal leaves what was there
-  pub refused_call : (number : ℕ) → number ≡ refusal k octets bytes → (number ≡ 0 → ⊥) → ChannelCall k octets bytes made before number before
-  refused_call number e h = record { answer = e; left = go number h }
-    where
-      go : (number : ℕ) → (number ≡ 0 → ⊥) → before ≡ after_by number made before
-      go zero h = absurd (h refl)
-      go (suc number) h = refl

@@ -1,13 +1,14 @@
 -- How the code's modes and verdicts come to the definitions.
 -- Assumes nothing.
-use mathlib.Core.Path.{◌≡◌, refl, sym, ◌∙◌, ap, subst}
+use mathlib.Core.Path.{◌≡◌, ◌∙◌, ap}
 use mathlib.Core.Bool.{true, false}
+use mathlib.Core.Logic.{◌⊎◌, inl, inr}
 use mathlib.Core.List.{[], ◌∷◌}
 use Prim.Native.Nat.{ℕ, zero, suc, ◌+◌, ◌*◌, ◌/◌, ◌%◌, ◌^◌, ◌≤◌}
 use native.Mathlib.Omega.{arith}
 use borrow.Author.Tests.{eq-eqb, ne_eqb}
 use lib.Dec.{eqb}
-use lib.ListN.{get_or, get_or-eq_default}
+use lib.ListN.{get_or}
 use Rattle.bits.specs.Bit.{to_n, number, count}
 use Rattle.channel.specs.declared.Pattern.TheVariants.{Low}
 use Rattle.channel.specs.declared.Terms.{Terms}
@@ -17,27 +18,6 @@ use Rattle.channel.specs.Places.{d_places}
 use Rattle.channel.specs.Coding.{Word, bits_at, c1to3}
 use Rattle.channel.specs.Checks.{checks_lower, checks_silence, checks}
 use Rattle.channel.specs.Verdict.{Context, own_mode, context_mode, mode_of, class_of, carries, unchecked, wrongs, verdict_of, after_of}
-
--- the mode that C1..C3 name, by their number c
-module _ (g : Word) (c : ℕ) (read : c ≡ c1to3 g Low) where
-  pub own_named : (i : ℕ) → c ≡ i → get_or (1 ∷ 2 ∷ 3 ∷ []) i 0 ≡ own_mode g
-  own_named i e = ap (λ (n : ℕ). get_or (1 ∷ 2 ∷ 3 ∷ []) n 0) (sym e ∙ read)
-
-  pub own_none : (c ≡ 0 → ⊥) → (c ≡ 1 → ⊥) → (c ≡ 2 → ⊥) → 0 ≡ own_mode g
-  own_none x y z =
-      let h : 3 ≤ c = omega arith in
-      let e : ◌≡◌ {A = ℕ} (get_or (1 ∷ 2 ∷ 3 ∷ []) c 0) 0 = get_or-eq_default {A = ℕ} (1 ∷ 2 ∷ 3 ∷ []) 0 {n = c} h in
-      subst (λ (n : ℕ). ◌≡◌ {A = ℕ} 0 (get_or (1 ∷ 2 ∷ 3 ∷ []) n 0)) read (sym e)
-
--- the contexts that hold no mode
-pub context-none : (x : Context) → (x ≡ 3 → ⊥) → (x ≡ 4 → ⊥) → (x ≡ 5 → ⊥) → 0 ≡ context_mode x
-context-none zero a b c = refl
-context-none (suc zero) a b c = refl
-context-none (suc (suc zero)) a b c = refl
-context-none (suc (suc (suc zero))) a b c = absurd (a refl)
-context-none (suc (suc (suc (suc zero)))) a b c = absurd (b refl)
-context-none (suc (suc (suc (suc (suc zero))))) a b c = absurd (c refl)
-context-none (suc (suc (suc (suc (suc (suc x)))))) a b c = refl
 
 -- a mode is 3 at most
 named_le : (i : ℕ) → get_or (1 ∷ 2 ∷ 3 ∷ []) i 0 ≤ 3
@@ -66,18 +46,18 @@ context_le (suc zero) = omega arith
 context_le (suc (suc zero)) = omega arith
 context_le (suc (suc (suc x))) = named_le x
 
--- a kind 6 has its own mode, else the context's
-pub mode_context : (x : Context) (g : Word) (own : ℕ) → own ≡ own_mode g → own ≡ 0 → context_mode x ≡ mode_of x g Lower
-mode_context x g own e h = rw (eq-eqb (own_mode g) 0 (sym e ∙ h))
-
-pub mode_own : (x : Context) (g : Word) (own : ℕ) → own ≡ own_mode g → (own ≡ 0 → ⊥) → own ≡ mode_of x g Lower
-mode_own x g own e h = rw (ne_eqb (own_mode g) 0 (λ z. h (e ∙ z))) e
-
 -- the verdict of a kind with CRCs of its own
 pub own_verdict : (t : Terms) (x : Context) (g : Word) (k : Kind) (r : ℕ) → unchecked t x g k ≡ false → carries t g k ≡ false → mode_of x g k ≡ 0
     → r ≡ wrongs g (checks 0 k) → r ≡ verdict_of t x g k
 unfolding verdict_of
 own_verdict t x g k r u c m e = rw (u, c, m) (omega arith)
+
+-- of a kind without CRCs
+pub none_covered : (t : Terms) (x : Context) (g : Word) (k : Kind) → (k ≡ Data) ⊎ ((k ≡ Om) ⊎ (k ≡ Configuration)) → 0 ≡ verdict_of t x g k
+unfolding verdict_of checks
+none_covered t x g k (inl e) = rw e
+none_covered t x g k (inr (inl e)) = rw e
+none_covered t x g k (inr (inr e)) = rw e
 
 -- of a kind 5, by its class
 module _ (t : Terms) (x : Context) (g : Word) (class : ℕ) (is : class ≡ class_of g) where

@@ -3,21 +3,15 @@
 -- Assumes nothing: these are definitions.
 use mathlib.Core.List.{List, [], ◌∷◌}
 use Prim.Native.Nat.{ℕ}
-use mir.Syntax.{Callee, Ty, Lifetime, Mutability, named, erased, imm, mut, w8, w64, ty_int, ty_ref, ty_struct, ty_unit, tcons, tnil, Local, local, value_local, field, deref, Opd, copy, addr_of, aggregate, rv_opd, Body, seq, assign, call, place, return, Fn}
+use mir.Syntax.{Callee, Ty, Lifetime, Mutability, named, erased, imm, mut, w8, w64, ty_int, ty_ref, ty_struct, tcons, tnil, Local, local, value_local, field, deref, Opd, copy, addr_of, aggregate, Body, seq, assign, call, place, return, Fn}
 use denote.Memory.{pointee}
 use Rattle.sessions.specs.contracts.Session.{the_row}
 use Rattle.sessions.proofs.Session.TheLaws as Session
-use Rattle.sessions.proofs.Found.TheLaws as Found
-use Rattle.sessions.proofs.find.Symbol.{name as #find}
-use Rattle.sessions.proofs.at.Symbol.{name as #at}
-use Rattle.sessions.proofs.store.Symbol.{name as #store}
-use Rattle.serving.proofs.Opened.TheLaws as Opened
-use Rattle.serving.proofs.Opening.TheLaws as Opening
-use Rattle.serving.proofs.Closing.TheLaws as Closing
-use Rattle.serving.proofs.Paged.TheLaws as Paged
 use Rattle.call.proofs.Answer.TheLaws as Answer
-use Rattle.serving.proofs.open_in.Symbol.{name as #open-in}
-use Rattle.serving.proofs.close_at.Symbol.{name as #close-at}
+use Rattle.serving.proofs.Opened.TheLaws as Opened
+use Rattle.serving.proofs.Brought.TheLaws as Brought
+use Rattle.serving.proofs.open.Symbol.{name as #open}
+use Rattle.serving.proofs.close.Symbol.{name as #close}
 
 abbrev word : Ty
 word = ty_int w64
@@ -39,10 +33,7 @@ at k = copy (place k [])
 abbrev part : ℕ → ℕ → Opd
 part k i = copy (place k (field i ∷ []))
 
--- local k becomes what an operand is; what a function answers
-abbrev reads : ℕ → Opd → Body
-reads k x = assign (place k []) (rv_opd x)
-
+-- local k becomes what a function answers
 abbrev calls : ℕ → Callee → List Opd → Body
 calls k f xs = call f xs (place k [])
 
@@ -66,7 +57,7 @@ list ℓ m = value (slice ℓ m named_session)
 abbrev first : Mutability → Local
 first m = value (ty_ref erased m named_session)
 
--- opening: its answer; the list, key, capture number, direction; what is found, what comes of it; last the session to store, copied out
+-- opening: its answer; the list, key, capture number, direction; last the list lent on
 abbrev pub opens : Fn
 opens = record {
   lifetimes = 1;
@@ -76,20 +67,13 @@ opens = record {
   params = 4;
   locals =
       value Opened.mir ∷ list (named 0) mut ∷ value word ∷ value word ∷ value word
-      ∷ value Found.mir ∷ value Opening.mir ∷ first imm ∷ list erased imm ∷ value word ∷ value ty_unit ∷ first mut ∷ list erased mut
-      ∷ value Session.mir ∷ [];
+      ∷ first mut ∷ list erased mut ∷ [];
   body =
-      lists 7 8
-      (seq (calls 5 #find (at 8 ∷ at 2 ∷ []))
-      (seq (reads 9 (part 1 1))
-      (seq (calls 6 #open-in (at 5 ∷ at 9 ∷ at 2 ∷ at 3 ∷ at 4 ∷ []))
-      (lists 11 12
-      (seq (reads 13 (part 6 1))
-      (seq (calls 10 #store (at 12 ∷ part 6 0 ∷ at 13 ∷ []))
-      (seq (reads 0 (part 6 2)) return)))))));
+      lists 5 6
+      (seq (calls 0 #open (at 6 ∷ at 2 ∷ at 3 ∷ at 4 ∷ [])) return);
 }
 
--- closing: its number; the list, place, key; what stands there, what comes of it; last what to store
+-- closing: its number; the list, place, key; last the list lent on
 abbrev pub closes : Fn
 closes = record {
   lifetimes = 1;
@@ -99,23 +83,16 @@ closes = record {
   params = 3;
   locals =
       value word ∷ list (named 0) mut ∷ value word ∷ value word
-      ∷ value Session.mir ∷ value Closing.mir ∷ first imm ∷ list erased imm ∷ value word ∷ value ty_unit ∷ first mut ∷ list erased mut
-      ∷ value Session.mir ∷ [];
+      ∷ first mut ∷ list erased mut ∷ [];
   body =
-      lists 6 7
-      (seq (calls 4 #at (at 7 ∷ at 2 ∷ []))
-      (seq (reads 8 (part 1 1))
-      (seq (calls 5 #close-at (at 4 ∷ at 8 ∷ at 3 ∷ []))
-      (lists 10 11
-      (seq (reads 12 (part 5 0))
-      (seq (calls 9 #store (at 11 ∷ at 2 ∷ at 12 ∷ []))
-      (seq (reads 0 (part 5 1)) return)))))));
+      lists 4 5
+      (seq (calls 0 #close (at 5 ∷ at 2 ∷ at 3 ∷ [])) return);
 }
 
--- a page: its answer; the list, place, key, the capture's bytes, n, profile, most, the buffer; what stands there, what comes of it; last what to
--- store. What makes the page is called by the name given
+-- a page: its answer; the list, place, key, the capture's bytes, n, profile, most, the buffer; what is brought; last the list and the buffer lent on. What
+-- lends the table of D places, or nothing, is called by the name given
 abbrev pub pages : Callee → Fn
-pages #page-at = record {
+pages #page = record {
   lifetimes = 3;
   outlives = [];
   ty_params = [];
@@ -123,17 +100,11 @@ pages #page-at = record {
   params = 8;
   locals =
       value Answer.mir ∷ list (named 0) mut ∷ value word ∷ value word ∷ value (slice (named 1) imm octet) ∷ value word ∷ value octet ∷ value word
-      ∷ value (slice (named 2) mut octet) ∷ value Session.mir ∷ value Paged.mir ∷ first imm ∷ list erased imm ∷ value word
-      ∷ value (ty_ref erased mut octet) ∷ value (slice erased mut octet) ∷ value ty_unit ∷ first mut ∷ list erased mut
-      ∷ value Session.mir ∷ [];
+      ∷ value (slice (named 2) mut octet) ∷ value Brought.mir
+      ∷ first mut ∷ list erased mut ∷ value (ty_ref erased mut octet) ∷ value (slice erased mut octet) ∷ [];
   body =
-      lists 11 12
-      (seq (calls 9 #at (at 12 ∷ at 2 ∷ []))
-      (seq (reads 13 (part 1 1))
-      (lends 8 octet 14 15
-      (seq (calls 10 #page-at (at 9 ∷ at 13 ∷ at 3 ∷ at 4 ∷ at 5 ∷ at 6 ∷ at 7 ∷ at 15 ∷ []))
-      (lists 17 18
-      (seq (reads 19 (part 10 0))
-      (seq (calls 16 #store (at 18 ∷ at 2 ∷ at 19 ∷ []))
-      (seq (reads 0 (part 10 1)) return))))))));
+      seq (assign (place 9 []) (aggregate (at 5 ∷ at 6 ∷ at 7 ∷ [])))
+      (lists 10 11
+      (lends 8 octet 12 13
+      (seq (calls 0 #page (at 11 ∷ at 2 ∷ at 3 ∷ at 4 ∷ at 9 ∷ at 13 ∷ [])) return)));
 }

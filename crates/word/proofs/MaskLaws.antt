@@ -17,7 +17,7 @@ use Rattle.channel.specs.Coding.{Word, all}
 use lib.ListN.{get_or}
 use Rattle.channel.specs.Places.{elem}
 use Rattle.channel.proofs.BoolLaws.{all-at, and_l, and_r, and_both, elem-count}
-use Rattle.word.specs.Words.{field_at, four_at, Holds, FixedBy}
+use Rattle.word.specs.Words.{field_at, Holds, FixedBy}
 
 -- a number and a bit behind it
 half : (a : ℕ) (x : Bool) → (2 * a + to_n x) / 2 ≡ a
@@ -68,7 +68,7 @@ same_from (p ∷ ps) g h a b =
     ∙ ap (λ (c : Bool). c && all (λ i. beq (g i) (h i)) ps) (same-digit a b (g p) (h p))
     ∙ and_assoc (eqb a b) (beq (g p) (h p)) (all (λ i. beq (g i) (h i)) ps)
 
-same_bits : (ps : List ℕ) (g h : ℕ → Bool) → eqb (number (map g ps)) (number (map h ps)) ≡ all (λ i. beq (g i) (h i)) ps
+pub same_bits : (ps : List ℕ) (g h : ℕ → Bool) → eqb (number (map g ps)) (number (map h ps)) ≡ all (λ i. beq (g i) (h i)) ps
 same_bits ps g h = same_from ps g h 0 0
 
 -- ---- the three numbers that hold a word
@@ -78,7 +78,7 @@ all_append : (t : ℕ → Bool) (xs ys : List ℕ) → all t (xs ++ ys) ≡ all 
 all_append t [] ys = refl
 all_append t (x ∷ xs) ys = ap (λ (b : Bool). t x && b) (all_append t xs ys) ∙ sym (and_assoc (t x) (all t xs) (all t ys))
 
-all_windows : (t : ℕ → Bool) → all t (count 64 0) && (all t (count 64 64) && all t (count 32 128)) ≡ all t (count 160 0)
+pub all_windows : (t : ℕ → Bool) → all t (count 64 0) && (all t (count 64 64) && all t (count 32 128)) ≡ all t (count 160 0)
 all_windows t = sym (all_append t (count 64 0) (count 64 64 ++ count 32 128) ∙ ap (λ (b : Bool). all t (count 64 0) && b) (all_append t (count 64 64) (count 32 128)))
 
 -- k of the bits under a mask
@@ -173,10 +173,11 @@ module _ (g : Word) (zeros ons mask fixed : List ℕ) (by : FixedBy zeros ons ma
 
 -- the words under those of a mask are those of the fixed ones where all the fixed bits hold
 pub fixed_masked : (g : Word) (zeros ons mask fixed : List ℕ) (p q r a b c x y z : ℕ) → Holds g p q r → Holds (bit_at mask) a b c → Holds (bit_at fixed) x y z → FixedBy zeros ons mask fixed
-    → eqb (bit_and p a) x && (eqb (bit_and q b) y && eqb (bit_and r c) z) ≡ all (λ i. not (g i)) zeros && all g ons
+    → (eqb (bit_and p a) x && eqb (bit_and q b) y) && eqb (bit_and r c) z ≡ all (λ i. not (g i)) zeros && all g ons
 unfolding test
 fixed_masked g zeros ons mask fixed p q r a b c x y z h m v by =
-    rw (h.first, h.second, h.third, m.first, m.second, m.third, v.first, v.second, v.third)
+    and_assoc (eqb (bit_and p a) x) (eqb (bit_and q b) y) (eqb (bit_and r c) z)
+    ∙ rw (h.first, h.second, h.third, m.first, m.second, m.third, v.first, v.second, v.third)
     (ap₂ (λ (s t : Bool). s && t) (mask_same g (bit_at mask) (bit_at fixed) 64 0)
     (ap₂ (λ (s t : Bool). s && t) (mask_same g (bit_at mask) (bit_at fixed) 64 64) (mask_same g (bit_at mask) (bit_at fixed) 32 128))
     ∙ all_windows (λ i. beq (g i && bit_at mask i) (bit_at fixed i))
@@ -201,7 +202,7 @@ module _ (s : List ℕ) (fits : (k : ℕ) → get_or s k 0 < 256) where
       ∙ ap (λ (n : ℕ). a * 256 + n) (byte-number k)
 
   -- m bytes from byte k on, behind a number
-  abbrev from_bytes : ℕ → ℕ → ℕ → ℕ
+  abbrev pub from_bytes : ℕ → ℕ → ℕ → ℕ
   from_bytes a k zero = a
   from_bytes a k (suc m) = from_bytes (a * 256 + get_or s k 0) (suc k) m
 
@@ -216,12 +217,7 @@ module _ (s : List ℕ) (fits : (k : ℕ) → get_or s k 0 < 256) where
       ∙ ap₂ (λ (n q : ℕ). number_from n (map (bit_at s) (count (8 * m) q))) (byte-push k a) f
       ∙ bytes-push m (suc k) (a * 256 + get_or s k 0)
 
-  -- what the code puts together
-  holds-octets : (a b c : ℕ) → a ≡ from_bytes 0 0 8 → b ≡ from_bytes 0 8 8 → c ≡ from_bytes 0 16 4 → Holds (bit_at s) a b c
+  -- the numbers of the bytes by eights and four
+  pub holds_octets : (a b c : ℕ) → a ≡ from_bytes 0 0 8 → b ≡ from_bytes 0 8 8 → c ≡ from_bytes 0 16 4 → Holds (bit_at s) a b c
   unfolding field_at
-  holds-octets a b c p q r = record { first = p ∙ sym (bytes-push 8 0 0); second = q ∙ sym (bytes-push 8 8 0); third = r ∙ sym (bytes-push 4 16 0) }
-
-  -- by fours
-  pub holds_fours : (f1 f2 f3 f4 f5 e1 e2 : ℕ) → f1 ≡ four_at s 0 → f2 ≡ four_at s 4 → f3 ≡ four_at s 8 → f4 ≡ four_at s 12 → f5 ≡ four_at s 16
-      → e1 ≡ f1 * 4294967296 + f2 → e2 ≡ f3 * 4294967296 + f4 → Holds (bit_at s) e1 e2 f5
-  holds_fours f1 f2 f3 f4 f5 e1 e2 a b c d e g h = holds-octets e1 e2 f5 (omega arith) (omega arith) (omega arith)
+  holds_octets a b c p q r = record { first = p ∙ sym (bytes-push 8 0 0); second = q ∙ sym (bytes-push 8 8 0); third = r ∙ sym (bytes-push 4 16 0) }

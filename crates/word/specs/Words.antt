@@ -1,18 +1,20 @@
 -- A frame's 160 bits as three numbers, and the fixed bits of a pattern as octets.
 -- Assumes nothing.
-use Rattle.std.specs.Prelude.{◌≡◌, Bool, true, not, List, ◌++◌, ℕ, ◌+◌, ◌*◌, ltb, get_or}
+use Rattle.std.specs.Prelude.{◌≡◌, Bool, true, not, List, ◌++◌, ℕ, ltb}
 use Rattle.std.specs.Bool.{beq}
+use Rattle.std.specs.Int.{w32, w64, to_be_bytes}
 use Rattle.bits.specs.Bit.{bit_at, number, count}
 use Rattle.channel.specs.Places.{elem}
-use Rattle.channel.specs.Coding.{Word, bits_at, all, ones}
+use Rattle.channel.specs.Coding.{Word, bits_at, all}
+use Rattle.word.specs.declared.Words.{Words}
 
 -- k bits from place p on as a number, the first on top
 unfoldable pub field_at : Word → ℕ → ℕ → ℕ
 field_at g k p = number (bits_at g (count k p))
 
--- four bytes from byte i on as a number, the first on top
-abbrev pub four_at : List ℕ → ℕ → ℕ
-four_at s i = ((get_or s i 0 * 256 + get_or s (i + 1) 0) * 256 + get_or s (i + 2) 0) * 256 + get_or s (i + 3) 0
+-- the twenty octets of three words, each with its high byte first
+unfoldable pub octets_in : Words → List ℕ
+octets_in w = to_be_bytes w64 w.a ++ to_be_bytes w64 w.b ++ to_be_bytes w32 w.c
 
 -- octets 1 to 8, 9 to 16 and 17 to 20 of a word
 pub record Holds (g : Word) (a b c : ℕ) : Type 0 where

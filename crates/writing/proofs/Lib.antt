@@ -1,4 +1,3 @@
 -- The laws of this crate, for the crates above it.
 -- Assumes nothing.
 pub mod WriteLaws
-pub mod CallLaws

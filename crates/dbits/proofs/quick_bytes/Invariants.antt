@@ -2,14 +2,10 @@
 -- Assumes nothing.
 use mathlib.Core.Path.{◌≡◌}
 use mathlib.Core.List.{map, ◌++◌}
-use Prim.Native.Nat.{◌+◌, ◌*◌, ◌-◌, ◌≤◌}
 use lib.ListN.{drop, replicate}
 use Rattle.bits.specs.Bit.{count}
-use Rattle.plans.specs.Plan.{quick_at}
+use Rattle.plans.specs.Plan.{quick_at, entry_at}
 use Rattle.dbits.proofs.quick_bytes.Given as goal
 
 abbrev pub invariant-loop-j : goal.invariant-loop-j
-invariant-loop-j l = (l.j ≤ l.n) × (l.out ≡ map (λ i. quick_at l.o l.plan (l.base + 3 * i)) (count l.j 0) ++ drop l.j (replicate 19 0))
-
-abbrev pub decreases-loop-j : goal.decreases-loop-j
-decreases-loop-j l = l.n - l.j
+invariant-loop-j l = l.out ≡ map (λ i. quick_at l.o (entry_at l.entries i)) (count l.j 0) ++ drop l.j (replicate 19 0)

@@ -16,4 +16,4 @@ returns c =
     let a = c.args in
     let d = a.d.now in
     let all : take (length d - a.i) (drop a.i d) ≡ drop a.i d = take_all (length d - a.i) (drop a.i d) (omega (arith, length-drop a.i d)) in
-    byte_turn a.o c.put.result (d_places a.k) (bit_at d) (bit_at (drop a.i d)) a.i (λ k m. rw (zero-add k) (byte-front d a.i k)) (rw all at c.put.ensures)
+    byte_turn a.o c.put.result (d_places a.plan.now.kind) (bit_at d) (bit_at (drop a.i d)) a.i (λ k m. rw (zero-add k) (byte-front d a.i k)) (rw all at c.put.ensures)

@@ -1,51 +1,27 @@
--- `due::number` meets its contract: each number by the tests on the way.
+-- `due::number` meets its contract: each refusal by the tests on the way.
 -- Assumes nothing.
-use native.Mathlib.Omega.{arith}
-use Rattle.channel.proofs.FrameLaws.{body_high}
-use Rattle.due.proofs.NumberLaws.{number-start, number-verdict, number_rule, number_past, number-taken}
-use Rattle.std.proofs.lemmas.Bool.{not_from_false, not_from_true}
+use Rattle.due.proofs.NumberLaws.{number-verdict, number_rule, number_past, number-taken}
 use Rattle.due.proofs.number.Goals as goal
+use Rattle.due.proofs.number.Goals.{then-f-due-via-then-f-due, then-f-due-via-else-f-due+then-not-allowed_in}
 
-pub returns-then-start-c : goal.returns-then-start-c
-returns-then-start-c c =
-    let a = c.args in
-    (number-start a.r a.k a.t a.c a.bits c.if-start-c.true, c.requires.2)
-
-pub returns-then-verdict-due : goal.returns-then-verdict-due
-returns-then-verdict-due c =
+pub returns-then-f-due : goal.returns-then-f-due
+returns-then-f-due c =
     let a = c.args in
     let due = c.verdict_in-due in
-    (number-verdict a.r a.k a.t a.c a.bits c.if-start-c.false due.result due.ensures.0 c.if-verdict-due.true, due.ensures.1)
+    elim c.then-f-due.branch [
+      | then-f-due-via-then-f-due w ↦ number-verdict a.f.now a.t a.c a.bits c.if-f-c.false due.result due.ensures w.if-f-due.true
+      | then-f-due-via-else-f-due+then-not-allowed_in w ↦
+          number_rule a.f.now a.t a.c a.bits c.if-f-c.false due.result due.ensures w.if-f-due.false w.allowed_in.result w.allowed_in.ensures w.if-not-allowed_in.true
+    ]
 
-pub returns-then-not-allowed_in : goal.returns-then-not-allowed_in
-returns-then-not-allowed_in c =
+pub returns-then-bits-f : goal.returns-then-bits-f
+returns-then-bits-f c =
     let a = c.args in
     let due = c.verdict_in-due in
-    let rule = c.allowed_in in
-    (number_rule a.r a.k a.t a.c a.bits c.if-start-c.false due.result due.ensures.0 c.if-verdict-due.false rule.result rule.ensures (not_from_false _ c.if-not-allowed_in.true), due.ensures.1)
-
-pub overflow_add-start : goal.overflow_add-start
-overflow_add-start c = omega (arith, c.body.ensures, body_high c.args.k)
-
-pub overflow_add-start-2 : goal.overflow_add-start-2
-overflow_add-start-2 c = omega (arith, c.body.ensures, body_high c.args.k)
-
-pub returns-then-bits-start : goal.returns-then-bits-start
-returns-then-bits-start c =
-    let a = c.args in
-    let due = c.verdict_in-due in
-    let rule = c.allowed_in in
-    let body = c.body in (
-      number_past a.r a.k a.t a.c a.bits c.if-start-c.false due.result due.ensures.0 c.if-verdict-due.false rule.result rule.ensures (not_from_true _ c.if-not-allowed_in.false) body.result body.ensures c.if-bits-start.true,
-      due.ensures.1,
-    )
+    number_past a.f.now a.t a.c a.bits c.if-f-c.false due.result due.ensures c.if-f-due.false c.allowed_in.result c.allowed_in.ensures c.if-not-allowed_in.false c.body.result c.body.ensures c.if-bits-f.true
 
 pub returns : goal.returns
 returns c =
     let a = c.args in
     let due = c.verdict_in-due in
-    let rule = c.allowed_in in
-    let body = c.body in (
-      number-taken a.r a.k a.t a.c a.bits c.if-start-c.false due.result due.ensures.0 c.if-verdict-due.false rule.result rule.ensures (not_from_true _ c.if-not-allowed_in.false) body.result body.ensures c.if-bits-start.false,
-      due.ensures.1,
-    )
+    number-taken a.f.now a.t a.c a.bits c.if-f-c.false due.result due.ensures c.if-f-due.false c.allowed_in.result c.allowed_in.ensures c.if-not-allowed_in.false c.body.result c.body.ensures c.if-bits-f.false

@@ -1,47 +1,8 @@
--- `eights::put` meets its contract, whichever way the places are found.
+-- `eights::put` meets its contract: the places of a byte lie in a frame, rise, and are one to eight.
 -- Assumes nothing.
-use mathlib.Core.Path.{◌≡◌, sym}
 use native.Mathlib.Omega.{arith}
-use lib.ListN.{length}
-use lib.Seq.{length-take-le}
-use Rattle.dplaces.proofs.DPlaceLaws.{lent-table}
-use Rattle.eights.proofs.EightLaws.{worked_out, eight_of_lem}
-use borrow.Author.Rules.{rules}
+use Rattle.eights.proofs.EightLaws.{eight_of_lem}
 use Rattle.eights.proofs.put.Goals as goal
 
-pub slice_bounds-at_places-end : goal.slice_bounds-at_places-end
-slice_bounds-at_places-end c =
-    let n = c.size in
-    let eight = c.eight-worked_out.result in
-    let long : length eight ≡ 8 = search rules in
-    sym (length-take-le n.result eight (omega (arith, n.ensures, long)))
-
 pub at_places-requires : goal.at_places-requires
-at_places-requires c =
-    let a = c.args in
-    let r = c.requires in
-    let n = c.size in
-    let eight = c.eight-worked_out in
-    let e = eight_of_lem a.k a.j r.1 in
-    rw (worked_out a.k a.j n.result r.1 (omega (arith, n.ensures)) eight.result eight.ensures) (e.below, omega (arith, e.few, r.2))
-
-pub returns-then-table-eq0 : goal.returns-then-table-eq0
-returns-then-table-eq0 c =
-    let a = c.args in
-    let r = c.requires in
-    let n = c.size in
-    let eight = c.eight-worked_out in
-    rw (worked_out a.k a.j n.result r.1 (omega (arith, n.ensures)) eight.result eight.ensures) at c.at_places.ensures
-
-pub looked_up-requires : goal.looked_up-requires
-looked_up-requires c = let r = c.requires in (lent-table c.args.table.now r.0 c.if-table-eq0.false, omega (arith, r.1))
-
-pub at_places-requires-2 : goal.at_places-requires-2
-at_places-requires-2 c =
-    let a = c.args in
-    let r = c.requires in
-    let e = eight_of_lem a.k a.j r.1 in
-    rw c.looked_up.ensures (e.below, omega (arith, e.few, r.2))
-
-pub returns : goal.returns
-returns c = rw c.looked_up.ensures at c.at_places-2.ensures
+at_places-requires c = let e = eight_of_lem c.args.k c.args.j c.requires.0 in rw c.places.ensures (e.below, omega (arith, e.few, c.requires.1))

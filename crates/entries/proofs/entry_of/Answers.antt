@@ -12,9 +12,6 @@ use Rattle.entries.proofs.entry_of.Goals as goal
 pub overflow_cast-p : goal.overflow_cast-p
 overflow_cast-p c = omega (arith, c.type_inv.part 0)
 
-pub returns-then-p-lt8 : goal.returns-then-p-lt8
-returns-then-p-lt8 c = c.no_entry.ensures _
-
 pub second_run-requires : goal.second_run-requires
 second_run-requires c =
     let a = c.args in
@@ -26,12 +23,6 @@ overflow_cast-part c = omega (arith, c.type_inv.part (8 - get_or c.args.part.now
 
 pub overflow_add-p : goal.overflow_add-p
 overflow_add-p c = omega (arith, c.type_inv.part 0)
-
-pub returns-then-part-s-2 : goal.returns-then-part-s-2
-returns-then-part-s-2 c = c.no_entry-then-part-s-2.ensures _
-
-pub returns-then-p-gt151 : goal.returns-then-p-gt151
-returns-then-p-gt151 c = c.no_entry-then-p-gt151.ensures _
 
 pub second_run-requires-2 : goal.second_run-requires-2
 second_run-requires-2 c =

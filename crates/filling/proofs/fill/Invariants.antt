@@ -2,15 +2,17 @@
 -- Assumes nothing.
 use Prim.Native.Nat.{◌-◌, ◌≤◌}
 use Rattle.reading.proofs.FillLaws.{Filling}
-use Rattle.channel.specs.Frames.{capture_of, rules}
-use Rattle.plans.specs.Plan.{Plans}
-use Rattle.masks.specs.Kept.{Kept}
-use Rattle.item.specs.Item.{cursor_of}
+use Rattle.channel.specs.Frames.{rules}
 use Rattle.channel.specs.Record.{record_of}
+use Rattle.capture.specs.Capture.{capture_of}
+use Rattle.item.specs.Item.{cursor_of}
 use Rattle.filling.proofs.fill.Given as goal
 
-abbrev pub invariant-loop-items : goal.invariant-loop-items
-invariant-loop-items l = Filling rules record_of (capture_of l.s l.n l.t) (cursor_of l.initial.cursor) l.most l.initial.buffer l.buffer l.at l.items (cursor_of l.cursor) × (l.cursor.position ≤ l.n) × Plans l.table l.plan × Kept l.masks
+abbrev pub invariant-loop-page : goal.invariant-loop-page
+invariant-loop-page l = record {
+  filling : Filling rules record_of (capture_of l.capture) (cursor_of l.fn.c) l.most l.initial.buffer l.buffer l.page.bytes l.page.items (cursor_of l.page.cursor);
+  within : l.page.cursor.position ≤ l.capture.bits;
+}
 
-abbrev pub decreases-loop-items : goal.decreases-loop-items
-decreases-loop-items l = l.most - l.items
+abbrev pub decreases-loop-page : goal.decreases-loop-page
+decreases-loop-page l = l.most - l.page.items

@@ -2,8 +2,8 @@
 -- Assumes nothing.
 use Rattle.std.proofs.Common.{◌≡◌, refl}
 use Rattle.walks.proofs.CallMir.{pages}
-use Rattle.handheld.proofs.page_at.Symbol.{name as #page_at}
+use Rattle.handheld.proofs.session_page.Symbol.{name as #page}
 use Rattle.handheld.proofs.bellrope_session_page.Code as code
 
-pub steps : code.function ≡ pages #page_at
+pub steps : code.function ≡ pages #page
 steps = refl

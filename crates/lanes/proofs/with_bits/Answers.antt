@@ -1,12 +1,8 @@
 -- `lanes::with_bits` meets its contract.
 -- Assumes nothing.
 use native.Mathlib.Omega.{arith}
-use lib.Bits.{and_le_l}
 use Rattle.lanes.proofs.GatherLaws.{put-eight, put-fits}
 use Rattle.lanes.proofs.with_bits.Goals as goal
-
-pub overflow_sub-result : goal.overflow_sub-result
-overflow_sub-result c = and_le_l c.args.w _
 
 pub overflow_add-result : goal.overflow_add-result
 overflow_add-result c = let a = c.args in record { fits = put-fits a.w c.spread.result a.d (omega arith) c.spread.ensures.1 (omega arith) }

@@ -1,58 +1,47 @@
--- `lay::body` meets its contract: the bits that are left, put into the bytes so far, give what is wanted.
+-- `lay::body` meets its contract: a first run, bytes that show their eight bits of the frame, and a last run.
 -- Assumes nothing.
-use mathlib.Core.Path.{◌≡◌, refl, sym, ◌∙◌, ap}
-use Prim.Native.Nat.{ℕ, ◌+◌, ◌*◌, ◌-◌, ◌/◌, ◌%◌, ◌<◌, ◌≤◌}
+use mathlib.Core.Path.{◌≡◌, refl, ◌∙◌, ap}
+use Prim.Native.Nat.{ℕ, ◌+◌, ◌*◌, ◌-◌, ◌/◌, ◌%◌, ◌<◌}
 use native.Mathlib.Omega.{arith}
-use lib.ListN.{length, get_or, length-set, get_or-eq_default}
+use borrow.Author.Rules.{rules}
+use borrow.Author.Count.{below_more}
+use lib.ListN.{length, get_or, take, drop, length-take, length-drop}
+use lib.Seq.{get_or-set_same, get_or-set_other}
+use Rattle.std.proofs.Common.{◌≢◌}
 use Rattle.bits.specs.Bit.{bit_at}
 use Rattle.bits.proofs.BitLaws.{byte-bit}
-use Rattle.put.proofs.LayLaws.{left, turn_whole, runs_all, set-bytes}
-use borrow.Author.Rules.{rules}
+use Rattle.put.specs.Put.{Shows}
+use Rattle.put.proofs.RunPutLaws.{pair_shows}
+use Rattle.put.proofs.LayLaws.{laid_all}
 use Rattle.lay.proofs.body.Goals as goal
-use Rattle.lay.proofs.body.Goals.{then-n-lt20, else-n-lt20}
-
-pub returns-then-r-k-lt8 : goal.returns-then-r-k-lt8
-returns-then-r-k-lt8 c = let a = c.args in c.put_top.ensures (bit_at a.o) 0 (byte-bit a.o 0)
-
-pub loop-j-init : goal.loop-j-init
-loop-j-init c = (omega arith, omega arith, refl, λ m. omega (arith, c.type_inv.s m), refl)
 
 pub loop-j-preserved : goal.loop-j-preserved
 loop-j-preserved c =
-    let a = c.args in
     let l = c.loop-j in
-    let g = bit_at a.o in
-    let x = 8 * l.j - a.p % 8 in
-    let i = a.p / 8 + l.j in
-    let v = c.join.result in
-    let inside : i < length l.s = omega arith in
-    let back : l.j - 1 + 1 ≡ l.j = omega arith in
-    let next : 8 * (l.j + 1) - a.p % 8 ≡ x + 8 = omega arith in
-    let turn = turn_whole g l.s a.p a.k x i v (omega arith) (omega arith) inside (l.invariant.3 i) (omega arith) (rw back at (c.join.ensures a.o (l.j - 1) refl (ap (λ (n : ℕ). get_or a.o n 0) back))) in (
-      omega arith,
-      omega arith,
-      length-set l.s i v ∙ l.invariant.2,
-      set-bytes l.s i v l.invariant.3 inside (omega arith),
-      ap (left g _ a.p a.k) next ∙ turn ∙ l.invariant.4,
-    )
-
-pub shape_of-s : goal.shape_of-s
-shape_of-s c = c.put_top-3.auto.s ∙ c.loop-j.invariant.2 ∙ c.put_top-2.auto.s
+    let a = c.args in
+    below_more _ _
+    (λ m h. let other : m ≢ l.j = omega arith in rw get_or-set_other (l.invariant m h))
+    (let inside : l.j < length l.byte-items = omega arith in
+    rw get_or-set_same (omega arith, pair_shows a.o l.j (a.p % 8) _ _ c.join.result (omega arith) (omega arith) c.join.ensures refl refl))
 
 pub returns : goal.returns
 returns c =
     let a = c.args in
     let g = bit_at a.o in
+    let run = c.put_top-2.new.s in
+    let first = a.p / 8 + 1 in
     let n = (a.p % 8 + a.k) / 8 in
-    let x = 8 * n - a.p % 8 in
+    let m = a.p / 8 + n - first in
+    let x = 8 - a.p % 8 in
+    let long : length run ≡ length a.s.now = c.put_top-2.auto.s in
+    let many : length (take m (drop first run)) ≡ m = simp (length-take, length-drop) (omega arith) in
+    let small : (i : ℕ) → get_or run i 0 < 256 = λ i. search rules in
     let back : n - 1 + 1 ≡ n = omega arith in
-    let all : c.loop-j.j ≡ n = omega arith in
-    let long : length a.o ≡ 20 = search rules in
-    let next : get_or a.o n 0 ≡ c.if-n-lt20.last =
-    elim c.if-n-lt20.branch [
-      | then-n-lt20 w ↦ sym w.last-is
-      | else-n-lt20 w ↦ let past : length a.o ≤ n = omega (arith, w.if-n-lt20.false) in get_or-eq_default a.o 0 {n = n} past ∙ sym w.last-is
-    ] in
-    let bits = rw back at (c.join-2.ensures a.o (n - 1) refl (ap (λ (i : ℕ). get_or a.o i 0) back ∙ next)) in
-    runs_all g a.s.now c.put_top-2.new.s c.loop-j.s c.put_top-3.new.s a.p a.k (8 - a.p % 8) x ((a.p % 8 + a.k) % 8) (8 * (a.p / 8 + n))
-    (omega arith) (c.put_top-2.ensures g 0 (byte-bit a.o 0)) (rw all at c.loop-j.invariant.4) (omega arith) (c.put_top-3.ensures g x bits) (omega arith)
+    let end : 8 * n - a.p % 8 ≡ x + 8 * m = omega arith in
+    let octet : get_or a.o n 0 ≡ c.unwrap_or-last.result = search rules in
+    let bits : Shows c.join-2.result g (x + 8 * m) =
+    rw (back, end) at (pair_shows a.o (n - 1) (a.p % 8) _ _ c.join-2.result (omega arith) (omega arith) c.join-2.ensures refl (ap (λ (i : ℕ). get_or a.o i 0) back ∙ octet)) in
+    laid_all g a.s.now run c.loop-j.byte-items c.put_top-3.new.s a.p a.k m ((a.p % 8 + a.k) % 8) (8 * (a.p / 8 + n))
+    (omega arith) (omega arith) (c.put_top-2.ensures g 0 (byte-bit a.o 0)) long small (c.loop-j.auto.byte-items ∙ many)
+    (λ j l. let at : 8 * (j + 1) - a.p % 8 ≡ x + 8 * j = omega arith in rw at at (c.loop-j.invariant j (omega arith)))
+    (omega arith) (c.put_top-3.ensures g (x + 8 * m) bits)

@@ -1,14 +1,10 @@
--- `lay::body` meets its contract: the bits that are left, put into the bytes so far, give what is wanted.
+-- `lay::body` meets its contract: each byte between the first and the last shows its eight bits of the frame.
 -- Assumes nothing.
-use mathlib.Core.Path.{◌≡◌}
-use Prim.Native.Nat.{ℕ, ◌*◌, ◌-◌, ◌<◌, ◌≤◌}
-use lib.ListN.{length, get_or}
+use Prim.Native.Nat.{ℕ, ◌+◌, ◌*◌, ◌-◌, ◌<◌}
+use lib.ListN.{get_or}
 use Rattle.bits.specs.Bit.{bit_at}
-use Rattle.put.proofs.LayLaws.{left}
+use Rattle.put.specs.Put.{Shows}
 use Rattle.lay.proofs.body.Given as goal
 
 abbrev pub invariant-loop-j : goal.invariant-loop-j
-invariant-loop-j l = (1 ≤ l.j) × (l.j ≤ l.n) × (length l.s ≡ length l.initial.s) × ((m : ℕ) → get_or l.s m 0 < 256) × (left (bit_at l.o) l.s l.p l.k (8 * l.j - l.r) ≡ left (bit_at l.o) l.initial.s l.p l.k (8 - l.r))
-
-abbrev pub decreases-loop-j : goal.decreases-loop-j
-decreases-loop-j l = l.n - l.j
+invariant-loop-j l = (m : ℕ) → m < l.j → (get_or l.byte-items m 0 < 256) × Shows (get_or l.byte-items m 0) (bit_at l.o) (8 * (m + 1) - l.r)

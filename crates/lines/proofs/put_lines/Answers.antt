@@ -1,63 +1,36 @@
--- `lines::put_lines` meets its contract. The loop's invariant: the lines of the records before from stand in the buffer, and the rest of the page are
--- the records of the items whose lines do not stand there yet.
+-- `lines::put_lines` meets its contract.
 -- Assumes nothing.
-use mathlib.Core.Path.{◌≡◌, refl, ◌∙◌}
-use Prim.Native.Nat.{◌+◌, ◌-◌}
 use native.Mathlib.Omega.{arith}
-use lib.ListN.{length}
-use Rattle.lines.proofs.RecordLaws.{left-all, left-none, next, left-next}
+use lib.ListN.{get_or}
+use Rattle.lines.specs.Lines.{sizes}
+use Rattle.lines.proofs.RecordLaws.{left-none, Next, next}
 use Rattle.lines.proofs.put_lines.Goals as goal
+use Rattle.lines.proofs.put_lines.Goals.{In-Some}
 
-pub loop-from-init : goal.loop-from-init
-loop-from-init c = (left-all c.args.page.now c.args.out.now c.args.at (omega (arith, c.requires.room)), refl)
+-- the first of the records that are left
+here : (g : _) (c : In-Some g) → Next c.args.page.now c.args.text.now c.loop-kind.text c.loop-kind.rest.now c.in-Some.kind.now (get_or sizes c.in-Some.kind.now 0) g.row.N
+here g c =
+    let found = c.in-Some.ensures.item.3 in
+    next c.args.page.now c.args.text.now c.loop-kind.text c.loop-kind.rest.now c.loop-kind.invariant found.0 c.in-Some.kind.now (found.1 0) g.row.N c.requires
 
 pub size-requires : goal.size-requires
-size-requires c =
-    let l = c.loop-from in
-    let a = c.args in
-    let n = next a.page.now a.out.now a.at l.out l.from l.end l.invariant.0 (omega arith) (length a.out.now) c.requires in
-    n.few
+size-requires g c = (here g (goal.at.size-requires g c).In-Some).few
 
-pub overflow_add-behind : goal.overflow_add-behind
-overflow_add-behind c =
-    let l = c.loop-from in
-    let a = c.args in
-    let n = next a.page.now a.out.now a.at l.out l.from l.end l.invariant.0 (omega arith) (length a.out.now) c.requires in
-    omega (arith, c.size.ensures, n.inside)
+pub split_at-requires : goal.split_at-requires
+split_at-requires g c = rw c.size.ensures (here g (goal.at.split_at-requires g c).In-Some).inside
 
-pub slice_bounds-put_line-end : goal.slice_bounds-put_line-end
-slice_bounds-put_line-end c =
-    let l = c.loop-from in
-    let a = c.args in
-    let n = next a.page.now a.out.now a.at l.out l.from l.end l.invariant.0 (omega arith) (length a.out.now) c.requires in
-    omega (arith, c.size.ensures, n.inside)
+pub put_line-requires : goal.put_line-requires
+put_line-requires g c =
+    let n = here g (goal.at.put_line-requires g c).In-Some in
+    (omega arith, (rw (c.split_at.ensures.front, c.size.ensures) n.recorded, n.room))
 
-pub put_line-end-requires : goal.put_line-end-requires
-put_line-end-requires c =
-    let l = c.loop-from in
-    let a = c.args in
-    let n = next a.page.now a.out.now a.at l.out l.from l.end l.invariant.0 (omega arith) (length a.out.now) c.requires in
-    let e : l.from + c.size.result - l.from ≡ c.size.result = omega arith in
-    (rw (e, c.size.ensures) n.recorded, omega (arith, n.room, l.invariant.1))
+pub loop-kind-smaller : goal.loop-kind-smaller
+loop-kind-smaller g c = omega (arith, c.size.ensures, c.split_at.ensures.back_len, (here g (goal.at.loop-kind-smaller g c).In-Some).some)
 
-pub loop-from-smaller : goal.loop-from-smaller
-loop-from-smaller c =
-    let l = c.loop-from in
-    let a = c.args in
-    let n = next a.page.now a.out.now a.at l.out l.from l.end l.invariant.0 (omega arith) (length a.out.now) c.requires in
-    omega (arith, c.size.ensures, n.some)
-
-pub loop-from-preserved : goal.loop-from-preserved
-loop-from-preserved c =
-    let l = c.loop-from in
-    let a = c.args in
-    let the_size = c.size in
-    let p = c.put_line-end in
-    let e : l.from + the_size.result - l.from ≡ the_size.result = omega arith in
-    (rw the_size.ensures (left-next a.page.now a.out.now a.at l.out l.from l.end l.invariant.0 (omega arith) p.new.out p.result (rw (e, the_size.ensures) at p.ensures)), p.auto.out ∙ l.invariant.1)
+pub loop-kind-preserved : goal.loop-kind-preserved
+loop-kind-preserved g c =
+    let n = here g (goal.at.loop-kind-preserved g c).In-Some in
+    rw (c.split_at.ensures.back, c.size.ensures) (n.left c.put_line.new.text (rw (c.split_at.ensures.front, c.size.ensures) at c.put_line.ensures))
 
 pub returns : goal.returns
-returns c =
-    let l = c.loop-from in
-    let a = c.args in
-    left-none a.page.now a.out.now a.at l.out l.from l.end l.invariant.0 (omega arith)
+returns g c = left-none c.args.page.now c.args.text.now c.loop-kind.text c.loop-kind.rest.now c.loop-kind.invariant c.in_default.ensures.item.3

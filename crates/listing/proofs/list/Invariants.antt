@@ -1,5 +1,4 @@
--- `listing::list` meets its contract. The loop's invariant: the lines of the pages so far stand in the buffer, and are those of a stretch from the
--- beginning to the cursor.
+-- `listing::list` meets its contract. The loop's invariant: the lines of the pages so far are put, and are those of a stretch from the beginning to the cursor.
 -- Assumes nothing.
 use mathlib.Core.Path.{◌≡◌}
 use Prim.Native.Nat.{◌-◌}
@@ -8,7 +7,7 @@ use Rattle.listing.proofs.ListLaws.{Ongoing}
 use Rattle.listing.proofs.list.Given as goal
 
 abbrev pub invariant-loop-table : goal.invariant-loop-table
-invariant-loop-table l = Ongoing l.capture l.direction l.cursor l.initial.out l.out l.end × (length l.buffer ≡ 4096) × (length l.out ≡ length l.initial.out)
+invariant-loop-table g l = Ongoing l.capture l.direction l.cursor l.initial.text l.text × (length l.buffer ≡ 4096)
 
 abbrev pub decreases-loop-table : goal.decreases-loop-table
-decreases-loop-table l = l.n - l.cursor.position
+decreases-loop-table g l = l.n - l.cursor.position

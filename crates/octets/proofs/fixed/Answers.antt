@@ -1,29 +1,25 @@
--- `octets::fixed` meets its contract: each array is what the fixed ones of the pattern make, by the number of the kind.
+-- `octets::fixed` meets its contract: each array is what the fixed ones of the pattern make.
 -- Assumes nothing.
+use mathlib.Core.Path.{◌≡◌}
 use Rattle.bits.specs.Bit.{twenty, octet_of}
+use Rattle.channel.specs.declared.Pattern.TheVariants.{Hr, Low}
+use Rattle.channel.specs.Kinds.{pattern_of}
 use Rattle.octets.specs.Built.{fixed_octets}
-use Rattle.octets.proofs.KindLaws.{pattern_no_lem}
-use borrow.Author.Tests.{ne_eqb, le-leb, lt-leb}
+use borrow.Author.Rules.{rules}
 use Rattle.octets.proofs.fixed.Goals as goal
 
-pub returns-then-n-le4 : goal.returns-then-n-le4
+pub returns-in-Speech : goal.returns-in-Speech
 unfolding fixed_octets twenty octet_of
-returns-then-n-le4 c =
-    rw (pattern_no_lem c.args.k, ← c.number-n.ensures, le-leb c.number-n.result 4 c.if-n-le4.true)
+returns-in-Speech c = let e : pattern_of c.args.k ≡ Hr = search rules in rw e
 
-pub returns-then-n-le6 : goal.returns-then-n-le6
+pub returns-in-NoSpeech : goal.returns-in-NoSpeech
 unfolding fixed_octets twenty octet_of
-returns-then-n-le6 c =
-    let n = c.number-n.result in
-    rw (pattern_no_lem c.args.k, ← c.number-n.ensures, lt-leb n 4 c.if-n-le4.false, le-leb n 6 c.if-n-le6.true)
+returns-in-NoSpeech c = let e : pattern_of c.args.k ≡ Low = search rules in rw e
 
-pub returns-then-n-eq7 : goal.returns-then-n-eq7
+pub returns-in-Amr670 : goal.returns-in-Amr670
 unfolding fixed_octets twenty octet_of
-returns-then-n-eq7 c =
-    rw (pattern_no_lem c.args.k, ← c.number-n.ensures, c.if-n-eq7.true)
+returns-in-Amr670 c = rw c.in-Amr670.is
 
-pub returns-else-n-eq7 : goal.returns-else-n-eq7
+pub returns-in-Amr740 : goal.returns-in-Amr740
 unfolding fixed_octets twenty octet_of
-returns-else-n-eq7 c =
-    let n = c.number-n.result in
-    rw (pattern_no_lem c.args.k, ← c.number-n.ensures, lt-leb n 4 c.if-n-le4.false, lt-leb n 6 c.if-n-le6.false, ne_eqb n 7 c.if-n-eq7.false)
+returns-in-Amr740 c = rw c.in-Amr740.is

@@ -2,26 +2,20 @@
 -- Assumes nothing.
 use mathlib.Core.Path.{sym, ◌∙◌}
 use native.Mathlib.Omega.{arith}
-use Rattle.placing.proofs.PlacingLaws.{configuration_data, silence_lower}
+use Rattle.placing.proofs.PlacingLaws.{like_data, like_lower}
 use Rattle.placing.proofs.place_of.Goals as goal
 
 pub speech_place-requires : goal.speech_place-requires
 speech_place-requires c = let p = c.requires in (p.0, omega (arith, rw c.in-Speech.is at p.1))
 
 pub data_place-requires : goal.data_place-requires
-data_place-requires c = let p = c.requires in (p.0, omega (arith, rw c.in-Data.is at p.1))
+data_place-requires c = let p = c.requires in (p.0, (like_data _ c.args.d c.in-Data.is p.0 p.1).0)
 
 pub om_place-requires : goal.om_place-requires
 om_place-requires c = let p = c.requires in (p.0, omega (arith, rw c.in-Om.is at p.1))
 
-pub data_place-requires-in-Configuration : goal.data_place-requires-in-Configuration
-data_place-requires-in-Configuration c = let p = c.requires in (p.0, omega (arith, rw c.in-Configuration.is at p.1))
-
 pub low_place-requires : goal.low_place-requires
-low_place-requires c = let p = c.requires in (p.0, omega (arith, rw c.in-NoSpeech.is at p.1))
-
-pub low_place-requires-in-Lower : goal.low_place-requires-in-Lower
-low_place-requires-in-Lower c = let p = c.requires in (p.0, omega (arith, rw c.in-Lower.is at p.1))
+low_place-requires c = let p = c.requires in (p.0, (like_lower _ c.args.d c.in-NoSpeech.is p.0 p.1).0)
 
 pub place_670-requires : goal.place_670-requires
 place_670-requires c = let p = c.requires in (p.0, omega (arith, rw c.in-Amr670.is at p.1))
@@ -33,25 +27,13 @@ pub returns-in-Speech : goal.returns-in-Speech
 returns-in-Speech c = rw c.in-Speech.is c.speech_place.ensures
 
 pub returns-in-Data : goal.returns-in-Data
-returns-in-Data c = rw c.in-Data.is c.data_place.ensures
+returns-in-Data c = let p = c.requires in c.data_place.ensures ∙ sym (like_data _ c.args.d c.in-Data.is p.0 p.1).1
 
 pub returns-in-Om : goal.returns-in-Om
 returns-in-Om c = rw c.in-Om.is c.om_place.ensures
 
-pub returns-in-Configuration : goal.returns-in-Configuration
-returns-in-Configuration c =
-    let a = c.args in
-    let told = c.in-Configuration.is in
-    rw told (c.data_place-in-Configuration.ensures ∙ sym (configuration_data a.d c.requires.0 (rw told at c.requires.1)))
-
 pub returns-in-NoSpeech : goal.returns-in-NoSpeech
-returns-in-NoSpeech c =
-    let a = c.args in
-    let told = c.in-NoSpeech.is in
-    rw told (c.low_place.ensures ∙ sym (silence_lower a.d c.requires.0 (rw told at c.requires.1)))
-
-pub returns-in-Lower : goal.returns-in-Lower
-returns-in-Lower c = rw c.in-Lower.is c.low_place-in-Lower.ensures
+returns-in-NoSpeech c = let p = c.requires in c.low_place.ensures ∙ sym (like_lower _ c.args.d c.in-NoSpeech.is p.0 p.1).1
 
 pub returns-in-Amr670 : goal.returns-in-Amr670
 returns-in-Amr670 c = rw c.in-Amr670.is c.place_670.ensures

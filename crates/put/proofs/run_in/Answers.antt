@@ -3,7 +3,7 @@
 use mathlib.Core.Path.{◌≡◌}
 use Prim.Native.Nat.{ℕ, ◌+◌, ◌-◌, ◌/◌, ◌^◌, ◌<◌, ◌≤◌}
 use native.Mathlib.Omega.{arith}
-use lib.Bits.{bit_and, and_le_l}
+use lib.Bits.{bit_and}
 use Rattle.put.specs.Put.{put_run}
 use Rattle.put.proofs.RunPutLaws.{mask_falls, mask_is, run_masked, run_lt}
 use Rattle.put.proofs.run_in.Goals as goal
@@ -15,9 +15,6 @@ made y a c x l hy hx = run_masked y a c x l hy hx (256 / 2 ^ a - 256 / 2 ^ (a + 
 
 pub overflow_sub-mask : goal.overflow_sub-mask
 overflow_sub-mask c = mask_falls c.args.a c.args.c
-
-pub overflow_sub-result : goal.overflow_sub-result
-overflow_sub-result c = and_le_l c.args.y _
 
 pub overflow_add-result : goal.overflow_add-result
 overflow_add-result c = let a = c.args in omega (arith, made a.y a.a a.c a.x (omega arith) (omega arith) (omega arith), run_lt a.y a.a a.c a.x (omega arith) (omega arith) (omega arith))

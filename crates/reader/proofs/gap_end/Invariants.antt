@@ -2,20 +2,16 @@
 -- or no frame is seen.
 -- Assumes nothing.
 use mathlib.Core.Path.{◌≡◌}
-use Prim.Native.Nat.{◌+◌, ◌-◌, ◌≤◌}
-use Rattle.channel.specs.Frames.{capture_of}
-use Rattle.masks.specs.Kept.{Kept}
+use Prim.Native.Nat.{◌-◌, ◌≤◌}
+use Rattle.capture.specs.Capture.{capture_of}
 use Rattle.reader.proofs.GapLaws.{Passed}
 use Rattle.reader.proofs.gap_end.Given as goal
 
-abbrev pub invariant-loop-j : goal.invariant-loop-j
-invariant-loop-j l = (l.q ≡ l.initial.q) × (l.j ≤ 8) × (l.from ≤ l.q) × (l.q + 158 ≤ l.n) × Passed (capture_of l.s l.n l.t) l.from l.q
-
-abbrev pub decreases-loop-j : goal.decreases-loop-j
-decreases-loop-j l = 8 - l.j
+abbrev pub invariant-loop-place : goal.invariant-loop-place
+invariant-loop-place l = l.q ≡ l.initial.q
 
 abbrev pub invariant-places : goal.invariant-places
-invariant-places l = (l.from ≤ l.q) × (l.q ≤ l.n) × Passed (capture_of l.s l.n l.t) l.from l.q × Kept l.masks
+invariant-places l = (l.from ≤ l.q) × (l.q ≤ l.n) × Passed (capture_of l.capture) l.from l.q
 
 abbrev pub decreases-places : goal.decreases-places
 decreases-places l = l.n - l.q

@@ -1,11 +1,8 @@
 -- `sync::sync_from` meets its contract: no place of the bytes passed has eight zeros and a one, the one that is answered has.
 -- Assumes nothing.
-use Prim.Native.Nat.{◌+◌, ◌*◌, ◌-◌, ◌≤◌}
+use Prim.Native.Nat.{◌*◌}
 use Rattle.sync.proofs.SyncLaws.{Before}
 use Rattle.sync.proofs.sync_from.Given as goal
 
 abbrev pub invariant-loop-i : goal.invariant-loop-i
-invariant-loop-i l = (8 * l.i ≤ l.last + 8) × Before l.s l.q (8 * l.i)
-
-abbrev pub decreases-loop-i : goal.decreases-loop-i
-decreases-loop-i l = l.last + 9 - 8 * l.i
+invariant-loop-i l = Before l.s l.q (8 * l.i)

@@ -7,7 +7,7 @@ use Rattle.bits.specs.Bit.{bit_at}
 use Rattle.tails.proofs.tail_at.Given as goal
 
 abbrev pub invariant-loop-end : goal.invariant-loop-end
-invariant-loop-end l = (l.q ≤ l.end) × ((i : ℕ) → l.q ≤ i → i < l.end → bit_at l.s i ≡ true) × (l.end ≤ l.n)
+invariant-loop-end l = (l.q ≤ l.end) × ((i : ℕ) → l.q ≤ i → i < l.end → bit_at l.capture.bytes.now i ≡ true)
 
 abbrev pub decreases-loop-end : goal.decreases-loop-end
 decreases-loop-end l = l.n - l.end

@@ -2,11 +2,12 @@
 -- Assumes nothing.
 use native.Mathlib.Omega.{arith}
 use Rattle.bits.specs.Bit.{bit_at}
+use Rattle.word.specs.Words.{octets_in}
 use Rattle.verdict.proofs.VerdictLaws.{class_is}
 use Rattle.verdict.proofs.class_of.Goals as goal
 
 pub returns : goal.returns
 returns c =
-    let high = c.field_of in
-    let low = c.field_of-2 in
-    (omega (arith, high.ensures.0, low.ensures.0), λ o h. class_is (bit_at o) high.result low.result (high.ensures.1 (bit_at o) h.first) (low.ensures.1 (bit_at o) h.first))
+    let high = c.field.ensures in
+    let low = c.field-2.ensures in
+    (omega (arith, high.0, low.0), class_is (bit_at (octets_in c.args.w)) c.field.result c.field-2.result high.1 low.1)

@@ -1,22 +1,19 @@
--- `verdict::lower_verdict` meets its contract: the lists of a mode are neighbours among the covered ones.
+-- `verdict::lower_verdict` meets its contract: the lists of a mode are those of the definition.
 -- Assumes nothing.
-use mathlib.Core.Path.{◌≡◌}
-use native.Mathlib.Omega.{arith}
+use Rattle.std.proofs.Common.{◌≡◌, arith}
+use Rattle.verdict.specs.declared.Mode.TheVariants.{M475, M515, M590}
 use Rattle.channel.specs.Checks.{checks}
 use Rattle.masks.specs.Kept.{covered}
 use Rattle.verdict.proofs.lower_verdict.Goals as goal
 
-pub returns-then-mode-eq1 : goal.returns-then-mode-eq1
+pub returns-in-Some-M475 : goal.returns-in-Some-M475
 unfolding covered checks
-returns-then-mode-eq1 c = (c.four_wrongs.ensures.0, λ o h. rw c.if-mode-eq1.true (omega (arith, c.four_wrongs.ensures.2 o h)))
+returns-in-Some-M475 c = let e : c.in-Some-M475.field-0 ≡ M475 = rw c.in-Some-M475.is at c.in-Some-M475.field-0-is in rw (c.in-Some-M475.is, e) (omega (arith, c.four_wrongs.ensures.1))
 
-pub returns-then-mode-eq2 : goal.returns-then-mode-eq2
+pub returns-in-Some-M515 : goal.returns-in-Some-M515
 unfolding covered checks
-returns-then-mode-eq2 c = (c.four_wrongs-then-mode-eq2.ensures.0, λ o h. rw c.if-mode-eq2.true (omega (arith, c.four_wrongs-then-mode-eq2.ensures.2 o h)))
+returns-in-Some-M515 c = let e : c.in-Some-M515.field-0 ≡ M515 = rw c.in-Some-M515.is at c.in-Some-M515.field-0-is in rw (c.in-Some-M515.is, e) (omega (arith, c.four_wrongs-in-Some-M515.ensures.1))
 
-pub returns-then-mode-eq3 : goal.returns-then-mode-eq3
+pub returns-in-Some-M590 : goal.returns-in-Some-M590
 unfolding covered checks
-returns-then-mode-eq3 c = (c.one_wrong.ensures.0, λ o h. rw c.if-mode-eq3.true (omega (arith, c.one_wrong.ensures.2 o h)))
-
-pub returns : goal.returns
-returns c = (c.requires.1, λ o h. let z : c.args.mode ≡ 0 = omega arith in rw z)
+returns-in-Some-M590 c = let e : c.in-Some-M590.field-0 ≡ M590 = rw c.in-Some-M590.is at c.in-Some-M590.field-0-is in rw (c.in-Some-M590.is, e) (omega (arith, c.one_wrong.ensures.1))

@@ -1,3 +1,0 @@
--- The laws of this crate, for the crates above it.
--- Assumes nothing.
-pub mod FindLaws
