@@ -162,12 +162,13 @@ pub fn refuse(number: u64, index: u64, cursor: CursorNumbers) -> Answer
 pub fn answered(items: u64, bytes: u64, cursor: CursorNumbers) -> Answer
     ensures { result ≡ answered_by items bytes (cursor_by cursor) }
 {
+    let CursorNumbers { position, context } = cursor;
     Answer {
         number: 0,
         index: 0,
         items,
         bytes,
-        position: cursor.position,
-        context: cursor.context,
+        position,
+        context,
     }
 }
