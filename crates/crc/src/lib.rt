@@ -1,11 +1,11 @@
 // A CRC over listed places of a frame: masks worked out from the list, and the test by them.
 #![tactic(auto)]
 
-ghost use Rattle.std.specs.Prelude.{◌≡◌, Bool, cond, List, ◌∷◌, ℕ, ◌<◌};
+ghost use Rattle.std.specs.Prelude.{◌≡◌, Bool, cond, List, ◌∷◌, ℕ, ◌%◌, ◌^◌, ◌<◌};
 ghost use Rattle.bits.specs.Bit.{bit_at, to_n};
 ghost use Rattle.channel.specs.Crc.{right};
 ghost use Rattle.fields.specs.Below.{Below};
-ghost use Rattle.word.specs.Words.{octets_in};
+ghost use Rattle.word.specs.Words.{octets_in, Holds};
 ghost use Rattle.crc.specs.Taps.{ParityOf, odd_under, MasksOf};
 
 use word::Words;
@@ -18,17 +18,18 @@ pub struct Taps {
     pub nil: Words,
 }
 
-// Whether the ones of the words under a mask are odd in number, by the language's own count.
+// Whether the ones of the words under a mask are odd in number, by the language's own count; bits above the 32 of a frame's last four octets don't count.
 fn odd_under(w: Words, mask: Words) -> bool
-    ensures { result ≡ odd_under w.a w.b w.c mask }
+    ensures { result ≡ odd_under w.a w.b (w.c % 2 ^ 32) mask }
 {
-    u64::count_ones((w.a & mask.a) ^ (w.b & mask.b) ^ (w.c & mask.c) as u64) % 2 == 1
+    u64::count_ones((w.a & mask.a) ^ (w.b & mask.b) ^ (w.c % 4294967296 & mask.c)) % 2 == 1
 }
 
 // Whether a CRC is right, by the masks of its list: each coefficient of the remainder is a parity over the places whose powers have it, and all three are to
 // be one. None is skipped: of a right CRC each is looked at, and so there is no branch.
 pub fn right_by(w: Words, taps: &Taps) -> bool
-    ensures { (ps : List ℕ) → MasksOf ps taps.now → result ≡ right (bit_at (octets_in w)) ps }
+    ensures octets { (ps : List ℕ) → MasksOf ps taps.now → result ≡ right (bit_at (octets_in w)) ps }
+    ensures holds { (o ps : List ℕ) → Holds (bit_at o) w.a w.b w.c → MasksOf ps taps.now → result ≡ right (bit_at o) ps }
 {
     odd_under(w, taps.two) & odd_under(w, taps.one) & odd_under(w, taps.nil)
 }
@@ -48,7 +49,7 @@ fn with_tap(m: Words, p: usize, x: u64) -> Words
             ..m
         },
         _ => Words {
-            c: m.c ^ (x << (159 - p)) as u32,
+            c: m.c ^ (x << (159 - p)),
             ..m
         },
     }

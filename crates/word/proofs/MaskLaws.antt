@@ -8,7 +8,7 @@ use Prim.Native.Nat.{ℕ, zero, suc, ◌+◌, ◌*◌, ◌-◌, ◌/◌, ◌%◌
 use native.Mathlib.Omega.{arith}
 use native.Mathlib.Decide.{ℕ_discrete}
 use borrow.Author.Tests.{eq-eqb, ne_eqb, ltb-true, not-true}
-use lib.Bits.{bit_and, and_step}
+use lib.Bits.{bit_and, and_step, and_mod}
 use lib.Dec.{eqb, ltb}
 use Rattle.bits.specs.Bit.{to_n, number_from, number, count, bit_at}
 use Rattle.bits.proofs.BitLaws.{to_n_lt, byte-bit, rebuilt, number_append}
@@ -182,6 +182,11 @@ fixed_masked g zeros ons mask fixed p q r a b c x y z h m v by =
     (ap₂ (λ (s t : Bool). s && t) (mask_same g (bit_at mask) (bit_at fixed) 64 64) (mask_same g (bit_at mask) (bit_at fixed) 32 128))
     ∙ all_windows (λ i. beq (g i && bit_at mask i) (bit_at fixed i))
     ∙ fixed_test g zeros ons mask fixed by)
+
+-- so it is where no bit above the low 32 of the third words is looked at
+pub fixed_low : (g : Word) (zeros ons mask fixed : List ℕ) (p q r a b c x y z : ℕ) → Holds g p q (r % 2 ^ 32) → Holds (bit_at mask) a b (c % 2 ^ 32) → Holds (bit_at fixed) x y (z % 2 ^ 32) → FixedBy zeros ons mask fixed
+    → (eqb (bit_and p a) x && eqb (bit_and q b) y) && eqb (bit_and r c % 2 ^ 32) (z % 2 ^ 32) ≡ all (λ i. not (g i)) zeros && all g ons
+fixed_low g zeros ons mask fixed p q r a b c x y z h m v by = rw (and_mod r c 32) (fixed_masked g zeros ons mask fixed p q (r % 2 ^ 32) a b (c % 2 ^ 32) x y (z % 2 ^ 32) h m v by)
 
 -- ---- bytes into the three numbers
 

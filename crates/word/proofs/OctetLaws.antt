@@ -3,8 +3,8 @@
 use mathlib.Core.Path.{◌≡◌, refl, sym, ◌∙◌, ap, ap₂}
 use mathlib.Core.Bool.{true, beq}
 use mathlib.Core.List.{List, [], ◌∷◌, ◌++◌, map}
-use Prim.Native.Nat.{ℕ, zero, suc, ◌+◌, ◌*◌, ◌^◌, ◌<◌}
-use native.Mathlib.Nat.{mod-lt}
+use Prim.Native.Nat.{ℕ, zero, suc, ◌+◌, ◌*◌, ◌%◌, ◌^◌, ◌<◌}
+use native.Mathlib.Nat.{mod-lt, mod-eq_of_lt}
 use native.Mathlib.Omega.{arith}
 use borrow.Author.Tests.{eq-eqb}
 use lib.ListN.{length, get_or, drop}
@@ -13,6 +13,7 @@ use Rattle.std.proofs.lemmas.List.{drop_all}
 use Rattle.std.proofs.lemmas.Nat.{be_bytes_4, be_bytes_8, from_be_bytes-to_be_bytes_4, from_be_bytes-to_be_bytes_8}
 use Rattle.std.specs.Int.{w32, w64, byte_at, bytes_high_first, from_be_bytes}
 use Rattle.bits.specs.Bit.{bit_at, count}
+use Rattle.bits.proofs.BitLaws.{number_lt}
 use Rattle.channel.specs.Coding.{Word, all}
 use Rattle.channel.proofs.BoolLaws.{all-at, and_both, elem-count}
 use Rattle.word.specs.declared.Words.{Words}
@@ -56,6 +57,15 @@ both_small [] ys h k i = k i
 both_small (x ∷ xs) ys h k zero = h 0
 both_small (x ∷ xs) ys h k (suc i) = both_small xs ys (λ j. h (suc j)) k i
 
+-- four bytes of a number are those of its low 32 bits
+low_bytes : (n : ℕ) → bytes_high_first 4 n ≡ bytes_high_first 4 (n % 2 ^ 32)
+low_bytes n =
+    let e : byte_at 3 n ≡ byte_at 3 (n % 2 ^ 32) = omega arith in
+    let f : byte_at 2 n ≡ byte_at 2 (n % 2 ^ 32) = omega arith in
+    let g : byte_at 1 n ≡ byte_at 1 (n % 2 ^ 32) = omega arith in
+    let h : byte_at 0 n ≡ byte_at 0 (n % 2 ^ 32) = omega arith in
+    rw (e, f, g, h)
+
 -- the octets of some words: each is below 256, and the words are those of their bits
 module _ (w : Words) where
   pub octet_small : (i : ℕ) → get_or (octets_in w) i 0 < 256
@@ -69,18 +79,25 @@ module _ (w : Words) where
   four : (b0 b1 b2 b3 : ℕ) → from_be_bytes w32 (b0 ∷ b1 ∷ b2 ∷ b3 ∷ []) ≡ (((0 * 256 + b0) * 256 + b1) * 256 + b2) * 256 + b3
   four b0 b1 b2 b3 = omega arith
 
-  module _ (a_fits : w.a < 2 ^ 64) (b_fits : w.b < 2 ^ 64) (c_fits : w.c < 2 ^ 32) where
-    pub held : Holds (bit_at (octets_in w)) w.a w.b w.c
+  module _ (a_fits : w.a < 2 ^ 64) (b_fits : w.b < 2 ^ 64) where
+    pub held : Holds (bit_at (octets_in w)) w.a w.b (w.c % 2 ^ 32)
     unfolding octets_in
     held =
-        holds_octets (octets_in w) octet_small w.a w.b w.c
+        holds_octets (octets_in w) octet_small w.a w.b (w.c % 2 ^ 32)
         (sym (from_be_bytes-to_be_bytes_8 w.a a_fits) ∙ eight _ _ _ _ _ _ _ _)
         (sym (from_be_bytes-to_be_bytes_8 w.b b_fits) ∙ eight _ _ _ _ _ _ _ _)
-        (sym (from_be_bytes-to_be_bytes_4 w.c c_fits) ∙ four _ _ _ _)
+        (sym (from_be_bytes-to_be_bytes_4 (w.c % 2 ^ 32) (mod-lt w.c (omega arith))) ∙ ap (from_be_bytes w32) (sym (low_bytes w.c)) ∙ four _ _ _ _)
 
 -- so what has some octets holds them
 pub held_octets : (o : List ℕ) (w : Words) → w.a < 2 ^ 64 → w.b < 2 ^ 64 → w.c < 2 ^ 32 → octets_in w ≡ o → Holds (bit_at o) w.a w.b w.c
-held_octets o w a b c e = rw e at (held w a b c)
+held_octets o w a b c e = rw (e, mod-eq_of_lt c) at (held w a b)
+
+-- the third word of a frame has 32 bits
+pub held_low : (g : Word) (a b c : ℕ) → Holds g a b c → Holds g a b (c % 2 ^ 32)
+unfolding field_at
+held_low g a b c h =
+    let low : c < 2 ^ 32 = rw h.third (number_lt (map g (count 32 128))) in
+    rw (mod-eq_of_lt low) h
 
 -- of two words with the same three numbers, the first 160 bits are the same
 same_window : (g h : Word) (k p : ℕ) → field_at g k p ≡ field_at h k p → all (λ i. beq (g i) (h i)) (count k p) ≡ true
@@ -96,5 +113,5 @@ held_one g h a b c p q i l =
     (and_both _ _ (same_window g h 64 64 (sym p.second ∙ q.second)) (same_window g h 32 128 (sym p.third ∙ q.third)))))
 
 -- whatever octets hold the words of a frame, their first 160 bits are those of the octets that the words have
-pub held_bits : (o : List ℕ) (w : Words) → w.a < 2 ^ 64 → w.b < 2 ^ 64 → w.c < 2 ^ 32 → Holds (bit_at o) w.a w.b w.c → (i : ℕ) → i < 160 → bit_at o i ≡ bit_at (octets_in w) i
-held_bits o w a b c h = held_one (bit_at o) (bit_at (octets_in w)) w.a w.b w.c h (held w a b c)
+pub held_bits : (o : List ℕ) (w : Words) → w.a < 2 ^ 64 → w.b < 2 ^ 64 → Holds (bit_at o) w.a w.b w.c → (i : ℕ) → i < 160 → bit_at o i ≡ bit_at (octets_in w) i
+held_bits o w a b h = held_one (bit_at o) (bit_at (octets_in w)) w.a w.b (w.c % 2 ^ 32) (held_low (bit_at o) w.a w.b w.c h) (held w a b)

@@ -12,7 +12,7 @@ use Rattle.word.specs.declared.Words.{Words}
 unfoldable pub field_at : Word → ℕ → ℕ → ℕ
 field_at g k p = number (bits_at g (count k p))
 
--- the twenty octets of three words, each with its high byte first
+-- the twenty octets of three words, each with its high byte first: of the third word its low 32 bits
 unfoldable pub octets_in : Words → List ℕ
 octets_in w = to_be_bytes w64 w.a ++ to_be_bytes w64 w.b ++ to_be_bytes w32 w.c
 

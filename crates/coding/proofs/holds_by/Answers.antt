@@ -3,4 +3,4 @@
 use Rattle.coding.proofs.holds_by.Goals as goal
 
 pub returns : goal.returns
-returns c = λ zeros ones f. c.fixed.ensures zeros ones (rw (c.words_of.ensures.octets, c.words_of-2.ensures.octets) f)
+returns c = λ zeros ones f. c.fixed.ensures.octets zeros ones (rw (c.words_of.ensures.octets, c.words_of-2.ensures.octets) f)

@@ -10,4 +10,4 @@ pub returns : goal.returns
 returns c =
     let w = c.args.self in
     let f = c.field_of.ensures in
-    (f.0, f.1 (bit_at (octets_in w)) (held w (omega arith) (omega arith) (omega arith)).first)
+    (f.0, f.1 (bit_at (octets_in w)) (held w (omega arith) (omega arith)).first)
