@@ -1,7 +1,7 @@
 // A CRC over listed places of a frame: masks worked out from the list, and the test by them.
 #![tactic(auto)]
 
-ghost use Rattle.std.specs.Prelude.{◌≡◌, Bool, cond, List, ◌∷◌, ℕ, ◌%◌, ◌^◌, ◌<◌};
+ghost use Rattle.std.specs.Prelude.{◌≡◌, Bool, cond, List, ◌∷◌, ℕ, ◌<◌};
 ghost use Rattle.bits.specs.Bit.{bit_at, to_n};
 ghost use Rattle.channel.specs.Crc.{right};
 ghost use Rattle.fields.specs.Below.{Below};
@@ -18,19 +18,23 @@ pub struct Taps {
     pub nil: Words,
 }
 
-// Whether the ones of the words under a mask are odd in number, by the language's own count; bits above the 32 of a frame's last four octets don't count.
+// Whether the ones of the words under a mask are odd in number, by the language's own count.
 fn odd_under(w: Words, mask: Words) -> bool
-    ensures { result ≡ odd_under w.a w.b (w.c % 2 ^ 32) mask }
+    ensures { result ≡ odd_under w.a w.b w.c mask }
 {
-    u64::count_ones((w.a & mask.a) ^ (w.b & mask.b) ^ (w.c % 4294967296 & mask.c)) % 2 == 1
+    u64::count_ones((w.a & mask.a) ^ (w.b & mask.b) ^ (w.c & mask.c)) % 2 == 1
 }
 
 // Whether a CRC is right, by the masks of its list: each coefficient of the remainder is a parity over the places whose powers have it, and all three are to
-// be one. None is skipped: of a right CRC each is looked at, and so there is no branch.
+// be one. None is skipped: of a right CRC each is looked at, and so there is no branch. Mask bits above the 32 of a frame's last four octets may be anything.
 pub fn right_by(w: Words, taps: &Taps) -> bool
     ensures octets { (ps : List ℕ) → MasksOf ps taps.now → result ≡ right (bit_at (octets_in w)) ps }
     ensures holds { (o ps : List ℕ) → Holds (bit_at o) w.a w.b w.c → MasksOf ps taps.now → result ≡ right (bit_at o) ps }
 {
+    let w = Words {
+        c: w.c % 4294967296,
+        ..w
+    };
     odd_under(w, taps.two) & odd_under(w, taps.one) & odd_under(w, taps.nil)
 }
 
