@@ -1,61 +1,17 @@
--- The MIR of the calls on sessions: what each does step by step, wherever it is exported. Both libraries' functions are compared with it, each where it is
--- proved (`steps` in the `Answers.antt` of `bellrope_open`, `bellrope_close` and `bellrope_session_page`).
+-- The MIR of the calls on sessions as they are exported: each lends the list on to the call of `serving` that does the work, whose steps stand in `ListMir`
+-- there. Both libraries' functions are compared with it, each where it is proved (`steps` in the `Answers.antt` of `bellrope_open`, `bellrope_close` and
+-- `bellrope_session_page`).
 -- Assumes nothing: these are definitions.
-use mathlib.Core.List.{List, [], ◌∷◌}
-use Prim.Native.Nat.{ℕ}
-use mir.Syntax.{Callee, Ty, Lifetime, Mutability, named, erased, imm, mut, w8, w64, ty_int, ty_ref, ty_struct, tcons, tnil, Local, local, value_local, field, deref, Opd, copy, addr_of, aggregate, Body, seq, assign, call, place, return, Fn}
-use denote.Memory.{pointee}
-use Rattle.sessions.specs.contracts.Session.{the_row}
-use Rattle.sessions.proofs.Session.TheLaws as Session
-use Rattle.call.proofs.Answer.TheLaws as Answer
-use Rattle.serving.proofs.Opened.TheLaws as Opened
-use Rattle.serving.proofs.Brought.TheLaws as Brought
+use mathlib.Core.List.{List, [], ◌∷◌, ◌++◌}
+use Prim.Native.Nat.{ℕ, ◌+◌}
+use mir.Syntax.{Callee, named, erased, imm, mut, w8, ty_ref, Local, int, Body, seq, return, Fn}
+use Rattle.call.specs.contracts.Answer.{the_row as Answer}
+use Rattle.serving.specs.contracts.Opened.{the_row as Opened}
+use Rattle.serving.specs.contracts.Brought.{the_row as Brought}
 use Rattle.serving.proofs.open.Symbol.{name as #open}
 use Rattle.serving.proofs.close.Symbol.{name as #close}
-
-abbrev word : Ty
-word = ty_int w64
-
-abbrev octet : Ty
-octet = ty_int w8
-
--- a slice is a reference to its first element, and how many there are
-abbrev slice : Lifetime → Mutability → Ty → Ty
-slice ℓ m T = ty_struct (38 ∷ 91 ∷ 93 ∷ []) (tcons (ty_ref ℓ m T) (tcons word tnil))
-
-abbrev value : Ty → Local
-value T = local T value_local
-
--- local k, and field i of it
-abbrev at : ℕ → Opd
-at k = copy (place k [])
-
-abbrev part : ℕ → ℕ → Opd
-part k i = copy (place k (field i ∷ []))
-
--- local k becomes what a function answers
-abbrev calls : ℕ → Callee → List Opd → Body
-calls k f xs = call f xs (place k [])
-
--- the slice in local s, of elements T, lent on in local j, by way of the reference in local i
-abbrev lends : ℕ → Ty → ℕ → ℕ → Body → Body
-lends s T i j rest =
-    seq (assign (place i []) (addr_of (place s (field 0 ∷ deref T ∷ []))))
-    (seq (assign (place j []) (aggregate (at i ∷ part s 1 ∷ []))) rest)
-
--- the list lent on
-abbrev lists : ℕ → ℕ → Body → Body
-lists i j rest = lends 1 Session.mir i j rest
-
--- the locals that it needs; what a reference points to is written by its name
-abbrev named_session : Ty
-named_session = pointee the_row.written
-
-abbrev list : Lifetime → Mutability → Local
-list ℓ m = value (slice ℓ m named_session)
-
-abbrev first : Mutability → Local
-first m = value (ty_ref erased m named_session)
+use Rattle.serving.proofs.page.Symbol.{name as #page}
+use Rattle.serving.proofs.MirWords.{word, octet, slice, value, of, at, reads, makes, calls, lends, lists, list, first, table, table_lent}
 
 -- opening: its answer; the list, key, capture number, direction; last the list lent on
 abbrev pub opens : Fn
@@ -66,7 +22,7 @@ opens = record {
   givens = 0;
   params = 4;
   locals =
-      value Opened.mir ∷ list (named 0) mut ∷ value word ∷ value word ∷ value word
+      of Opened ∷ list (named 0) mut ∷ value word ∷ value word ∷ value word
       ∷ first mut ∷ list erased mut ∷ [];
   body =
       lists 5 6
@@ -92,19 +48,54 @@ closes = record {
 -- a page: its answer; the list, place, key, the capture's bytes, n, profile, most, the buffer; what is brought; last the list and the buffer lent on. What
 -- lends the table of D places, or nothing, is called by the name given
 abbrev pub pages : Callee → Fn
-pages #page = record {
+pages #session_page = record {
   lifetimes = 3;
   outlives = [];
   ty_params = [];
   givens = 0;
   params = 8;
   locals =
-      value Answer.mir ∷ list (named 0) mut ∷ value word ∷ value word ∷ value (slice (named 1) imm octet) ∷ value word ∷ value octet ∷ value word
-      ∷ value (slice (named 2) mut octet) ∷ value Brought.mir
+      of Answer ∷ list (named 0) mut ∷ value word ∷ value word ∷ value (slice (named 1) imm octet) ∷ value word ∷ value octet ∷ value word
+      ∷ value (slice (named 2) mut octet) ∷ of Brought
       ∷ first mut ∷ list erased mut ∷ value (ty_ref erased mut octet) ∷ value (slice erased mut octet) ∷ [];
   body =
-      seq (assign (place 9 []) (aggregate (at 5 ∷ at 6 ∷ at 7 ∷ [])))
+      seq (makes 9 (at 5 ∷ at 6 ∷ at 7 ∷ []))
       (lists 10 11
       (lends 8 octet 12 13
-      (seq (calls 0 #page (at 11 ∷ at 2 ∷ at 3 ∷ at 4 ∷ at 9 ∷ at 13 ∷ [])) return)));
+      (seq (calls 0 #session_page (at 11 ∷ at 2 ∷ at 3 ∷ at 4 ∷ at 9 ∷ at 13 ∷ [])) return)));
 }
+
+-- what lends the table, or nothing: its answer; the list, place, key, the capture's bytes, what is brought, the buffer; the locals of its own; last the list,
+-- the table or none, and the buffer lent on
+abbrev passes : List Local → Body → Fn
+passes own steps = record {
+  lifetimes = 3;
+  outlives = [];
+  ty_params = [];
+  givens = 0;
+  params = 6;
+  locals =
+      of Answer ∷ list (named 0) mut ∷ value word ∷ value word ∷ value (slice (named 1) imm octet) ∷ of Brought ∷ value (slice (named 2) mut octet)
+      ∷ (own ++ (first mut ∷ list erased mut ∷ table_lent ∷ value (ty_ref erased mut octet) ∷ value (slice erased mut octet) ∷ []));
+  body = steps;
+}
+
+-- these five from local k on, by what makes the third of them
+abbrev lent_from : ℕ → (ℕ → Body) → Body
+lent_from k tables =
+    lists k (1 + k)
+    (seq (tables (2 + k))
+    (lends 6 octet (3 + k) (4 + k)
+    (seq (calls 0 #page (at (1 + k) ∷ at 2 ∷ at 3 ∷ at 4 ∷ at 5 ∷ at (2 + k) ∷ at (4 + k) ∷ [])) return)))
+
+-- the table is lent, by the function of the name given
+abbrev pub with_table : Callee → Fn
+with_table #table =
+    passes (table_lent ∷ table ∷ [])
+    (seq (calls 8 #table [])
+    (seq (makes 7 (int w8 1 ∷ at 8 ∷ []))
+    (lent_from 9 (λ k. reads k (at 7)))))
+
+-- none is
+abbrev pub with_none : Fn
+with_none = passes [] (lent_from 7 (λ k. makes k (int w8 0 ∷ [])))
