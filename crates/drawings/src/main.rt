@@ -6,7 +6,8 @@ use text::Text;
 
 // Draws and writes.
 fn main(rt: HostRuntime) -> io::Result<()> {
-    let mut text = Text::<8192>::new();
+    let mut buffer = [0u8; 8192];
+    let mut text = Text::at(&mut buffer, 0);
     drawing::drawings(&mut text);
     rt.write_all(text.bytes())
 }

@@ -14,6 +14,8 @@ use Rattle.channel.specs.Kinds.{kind_no}
 use Rattle.channel.specs.Frames.{Frame}
 use Rattle.channel.specs.Record.{number_at, record_of, records, size_of, d_length}
 use Rattle.numbers.proofs.SizeLaws.{four_bytes, record_length, size_pos}
+use Rattle.text.specs.Text.{Put}
+use Rattle.text.proofs.TextLaws.{put-none, put-put, put_one}
 use Rattle.line.specs.Line.{spaced}
 use Rattle.lines.specs.Lines.{line_of, lines_of, sizes, Fits, AllFit, Recorded, Lined, Records, AllLined}
 
@@ -76,8 +78,8 @@ twelve bytes r h = go r.item r.is
     go (frame f) e = omega (arith, ap length e ∙ record_length (frame f))
 
 -- the line by the numbers that are read of a record
-module _ (bytes before after : List ℕ) (start span : ℕ) (at₁ : start ≡ number_at bytes 1) (at₅ : span ≡ number_at bytes 5) where
-  pub lined_gap : get_or bytes 0 0 ≡ 0 → after ≡ before ++ 71 ∷ spaced (start ∷ span ∷ []) → Lined bytes before after
+module _ (bytes before after : List ℕ) (at end start span : ℕ) (at₁ : start ≡ number_at bytes 1) (at₅ : span ≡ number_at bytes 5) where
+  pub lined_gap : get_or bytes 0 0 ≡ 0 → Put before at (71 ∷ spaced (start ∷ span ∷ [])) after end → Lined bytes before at after end
   unfolding record_of
   lined_gap z e (gap s l) f b =
       let p : start ≡ s = at₁ ∙ ap (λ (y : List ℕ). number_at y 1) b ∙ four_bytes s f.0 in
@@ -85,7 +87,7 @@ module _ (bytes before after : List ℕ) (start span : ℕ) (at₁ : start ≡ n
       rw (sym p, sym q) e
   lined_gap z e (frame g) f b = absurd (omega (arith, ap (λ (y : List ℕ). get_or y 0 0) b, kind-some g.kind))
 
-  pub lined_frame : (get_or bytes 0 0 ≡ 0 → ⊥) → after ≡ before ++ 70 ∷ spaced (get_or bytes 0 0 ∷ start ∷ span ∷ get_or bytes 11 0 ∷ []) → Lined bytes before after
+  pub lined_frame : (get_or bytes 0 0 ≡ 0 → ⊥) → Put before at (70 ∷ spaced (get_or bytes 0 0 ∷ start ∷ span ∷ get_or bytes 11 0 ∷ [])) after end → Lined bytes before at after end
   unfolding record_of
   lined_frame z e (gap s l) f b = absurd (z (ap (λ (y : List ℕ). get_or y 0 0) b))
   lined_frame z e (frame g) f b =
@@ -95,36 +97,38 @@ module _ (bytes before after : List ℕ) (start span : ℕ) (at₁ : start ≡ n
       let v : get_or bytes 11 0 ≡ g.verdict = ap (λ (y : List ℕ). get_or y 11 0) b in
       rw (sym k, sym p, sym q, sym v) e
 
--- a page that is the records of some items, and what is left of it where the lines of the first of them are put
-pub record Left (xs : List (Item Frame)) (before text rest : List ℕ) : Type 0 where
+-- a page that is the records of some items, a buffer in which the lines of the first of them stand, and what is left of the page
+pub record Left (xs : List (Item Frame)) (before : List ℕ) (at : ℕ) (out : List ℕ) (end : ℕ) (rest : List ℕ) : Type 0 where
+  pub text : List ℕ
   pub items : List (Item Frame)
+  pub whole : lines_of xs ≡ text ++ lines_of items
   pub fit : AllFit items
   pub are : rest ≡ records items
-  pub due : text ++ lines_of items ≡ before ++ lines_of xs
+  pub put : Put before at text out end
 
 -- the same of all items that the page is the records of
-abbrev pub AllLeft : List ℕ → List ℕ → List ℕ → List ℕ → Type 0
-AllLeft page before text rest = (xs : List (Item Frame)) → AllFit xs → page ≡ records xs → Left xs before text rest
+abbrev pub AllLeft : List ℕ → List ℕ → ℕ → List ℕ → ℕ → List ℕ → Type 0
+AllLeft page before at out end rest = (xs : List (Item Frame)) → AllFit xs → page ≡ records xs → Left xs before at out end rest
 
-pub left-all : (page before : List ℕ) → AllLeft page before before page
-left-all page before xs f e = record { items = xs; fit = f; are = e; due = refl }
+pub left-all : (page before : List ℕ) (at : ℕ) → at ≤ length before → AllLeft page before at before at page
+left-all page before at h xs f e = record { text = []; items = xs; whole = refl; fit = f; are = e; put = put-none before at h }
 
 -- no record is left
-pub left-none : (page before text rest : List ℕ) → AllLeft page before text rest → length rest ≤ 0 → AllLined page before text
-left-none page before text rest left h xs f e = go (left xs f e).items (left xs f e).are (left xs f e).due
+pub left-none : (page before : List ℕ) (at : ℕ) (out : List ℕ) (end : ℕ) (rest : List ℕ) → AllLeft page before at out end rest → length rest ≤ 0 → AllLined page before at out end
+left-none page before at out end rest left h xs f e = go (left xs f e).items (left xs f e).are (left xs f e).whole
   where
-    go : (ys : List (Item Frame)) → rest ≡ records ys → text ++ lines_of ys ≡ before ++ lines_of xs → text ≡ before ++ lines_of xs
-    go [] a d = sym (append-nil text) ∙ d
-    go (y ∷ ys) a d = absurd (omega (arith, ap length a, length-append (record_of y) (records ys), record_length y, size_pos y))
+    go : (ys : List (Item Frame)) → rest ≡ records ys → lines_of xs ≡ (left xs f e).text ++ lines_of ys → Put before at (lines_of xs) out end
+    go [] a w = rw (w, append-nil) (left xs f e).put
+    go (y ∷ ys) a w = absurd (omega (arith, ap length a, length-append (record_of y) (records ys), record_length y, size_pos y))
 
 -- the first of the records that are left, of some size, and what is asked of it: that its line is put, and there is room for that
-pub record Next (page before text rest : List ℕ) (kind size long : ℕ) : Type 0 where
+pub record Next (page before : List ℕ) (at : ℕ) (out : List ℕ) (end : ℕ) (rest : List ℕ) (kind size : ℕ) : Type 0 where
   pub few : kind < 9
   pub some : 0 < size
   pub inside : size ≤ length rest
   pub recorded : Recorded (take size rest)
-  pub room : length text + 86 ≤ long
-  pub left : (after : List ℕ) → Lined (take size rest) text after → AllLeft page before after (drop size rest)
+  pub room : end + 86 ≤ length before
+  pub left : (after : List ℕ) (behind : ℕ) → Lined (take size rest) out end after behind → AllLeft page before at after behind (drop size rest)
 
 record First (rest : List ℕ) (kind size : ℕ) (items : List (Item Frame)) : Type 0 where
   pub item : Item Frame
@@ -138,7 +142,7 @@ record First (rest : List ℕ) (kind size : ℕ) (items : List (Item Frame)) : T
   pub is : take size rest ≡ record_of item
   pub are : drop size rest ≡ records more
 
-module _ (page before text rest : List ℕ) (left : AllLeft page before text rest) (h : 0 < length rest) (kind : ℕ) (first : kind ≡ get_or rest 0 0) where
+module _ (page before : List ℕ) (at : ℕ) (out : List ℕ) (end : ℕ) (rest : List ℕ) (left : AllLeft page before at out end rest) (h : 0 < length rest) (kind : ℕ) (first : kind ≡ get_or rest 0 0) where
   taken : (items : List (Item Frame)) → AllFit items → rest ≡ records items → First rest kind (get_or sizes kind 0) items
   taken [] f a = absurd (omega (arith, ap length a))
   taken (y ∷ ys) (f, fs) a =
@@ -157,8 +161,8 @@ module _ (page before text rest : List ℕ) (left : AllLeft page before text res
         are = ap (drop (size_of y)) a ∙ drop_at (record_of y) (records ys) (size_of y) (record_length y);
       })
 
-  pub next : (long : ℕ) → Records page (length before) long → Next page before text rest kind (get_or sizes kind 0) long
-  next long r =
+  pub next : Records page at (length before) → Next page before at out end rest kind (get_or sizes kind 0)
+  next r =
       let l = left r.items r.fit r.are in
       let x = taken l.items l.fit l.are in
       record {
@@ -166,25 +170,26 @@ module _ (page before text rest : List ℕ) (left : AllLeft page before text res
         some = x.some;
         inside = x.inside;
         recorded = record { item = x.item; fits = x.fits; is = x.is };
-        room = omega (arith, r.room, ap length l.due, length-append text (lines_of l.items), length-append before (lines_of r.items));
+        room = omega (arith, r.room, l.put.ends, ap length l.whole, length-append l.text (lines_of l.items));
         left = put;
       }
     where
-      put : (after : List ℕ) → Lined (take (get_or sizes kind 0) rest) text after → AllLeft page before after (drop (get_or sizes kind 0) rest)
-      put after p xs f e =
+      put : (after : List ℕ) (behind : ℕ) → Lined (take (get_or sizes kind 0) rest) out end after behind → AllLeft page before at after behind (drop (get_or sizes kind 0) rest)
+      put after behind p xs f e =
           let l = left xs f e in
           let x = taken l.items l.fit l.are in
-          let due : text ++ (line_of x.item ++ lines_of x.more) ≡ before ++ lines_of xs = rw x.splits at l.due in
           record {
+            text = l.text ++ line_of x.item;
             items = x.more;
+            whole = l.whole ∙ ap (λ (r : List (Item Frame)). l.text ++ lines_of r) x.splits ∙ sym (append_assoc l.text (line_of x.item) (lines_of x.more));
             fit = x.fit;
             are = x.are;
-            due = ap (λ (t : List ℕ). t ++ lines_of x.more) (p x.item x.fits x.is) ∙ append_assoc text (line_of x.item) (lines_of x.more) ∙ due;
+            put = put-put l.put (p x.item x.fits x.is);
           }
 
--- no second text fits a record, or a page
-pub one_line : (bytes before after last : List ℕ) → Recorded bytes → Lined bytes before after → Lined bytes before last → after ≡ last
-one_line bytes before after last r p q = p r.item r.fits r.is ∙ sym (q r.item r.fits r.is)
+-- no second buffer and end fit a record, or a page
+pub one_line : (bytes before after last : List ℕ) (at end stop : ℕ) → Recorded bytes → Lined bytes before at after end → Lined bytes before at last stop → (after ≡ last) × (end ≡ stop)
+one_line bytes before after last at end stop r p q = put_one (p r.item r.fits r.is) (q r.item r.fits r.is)
 
-pub one-page : (bytes before after last : List ℕ) (at long : ℕ) → Records bytes at long → AllLined bytes before after → AllLined bytes before last → after ≡ last
-one-page bytes before after last at long r p q = p r.items r.fit r.are ∙ sym (q r.items r.fit r.are)
+pub one-page : (bytes before after last : List ℕ) (at end stop long : ℕ) → Records bytes at long → AllLined bytes before at after end → AllLined bytes before at last stop → (after ≡ last) × (end ≡ stop)
+one-page bytes before after last at end stop long r p q = put_one (p r.items r.fit r.are) (q r.items r.fit r.are)

@@ -5,6 +5,7 @@ use Rattle.reading.specs.Reading.{Item, gap, frame}
 use Rattle.channel.specs.Kinds.{kind_no}
 use Rattle.channel.specs.Frames.{Frame}
 use Rattle.channel.specs.Record.{record_of, records}
+use Rattle.text.specs.Text.{Put}
 use Rattle.line.specs.Line.{spaced}
 
 -- the line of an item: `G start length` or `F kind start tail verdict`
@@ -36,17 +37,17 @@ pub record Recorded (bytes : List ℕ) : Type 0 where
   pub fits : Fits item
   pub is : bytes ≡ record_of item
 
--- the line that is put behind a text is that of the item that the bytes are the record of
-abbrev pub Lined : List ℕ → List ℕ → List ℕ → Type 0
-Lined bytes before after = (x : Item Frame) → Fits x → bytes ≡ record_of x → after ≡ before ++ line_of x
+-- the line that is put is that of the item that the bytes are the record of
+abbrev pub Lined : List ℕ → List ℕ → ℕ → List ℕ → ℕ → Type 0
+Lined bytes before at after end = (x : Item Frame) → Fits x → bytes ≡ record_of x → Put before at (line_of x) after end
 
--- bytes that are records, and a buffer of some length that has room for their lines behind a text of another, and for the longest line behind them
+-- bytes that are records, and a buffer of some length that has room for their lines from a place on, and for the longest line behind them
 pub record Records (bytes : List ℕ) (at long : ℕ) : Type 0 where
   pub items : List (Item Frame)
   pub fit : AllFit items
   pub are : bytes ≡ records items
   pub room : at + length (lines_of items) + 86 ≤ long
 
--- the lines that are put behind a text are those of the items that the bytes are the records of, in order
-abbrev pub AllLined : List ℕ → List ℕ → List ℕ → Type 0
-AllLined bytes before after = (xs : List (Item Frame)) → AllFit xs → bytes ≡ records xs → after ≡ before ++ lines_of xs
+-- the lines that are put are those of the items that the bytes are the records of, in order
+abbrev pub AllLined : List ℕ → List ℕ → ℕ → List ℕ → ℕ → Type 0
+AllLined bytes before at after end = (xs : List (Item Frame)) → AllFit xs → bytes ≡ records xs → Put before at (lines_of xs) after end

@@ -2,6 +2,7 @@
 #![tactic(auto)]
 
 ghost use Rattle.std.specs.Prelude.{◌≡◌, ◌+◌, ◌≤◌, ◌<◌, length, get_or};
+ghost use Rattle.text.specs.Text.{Same};
 ghost use Rattle.lines.specs.Lines.{sizes, Recorded, Lined, Records, AllLined};
 
 use text::Text;
@@ -19,9 +20,10 @@ fn size(kind: u8) -> usize
 }
 
 // Puts the line of the item that a record is of behind a text.
-fn put_line<const N: usize>(text: &mut Text<N>, bytes: &[u8])
-    requires { Recorded bytes.now × (length text.old + 86 ≤ N) }
-    ensures { Lined bytes.now text.old text.new }
+fn put_line(text: &mut Text, bytes: &[u8])
+    requires { Recorded bytes.now × (text.old.end + 86 ≤ length text.old.bytes.now) }
+    ensures same { Same text.old.bytes text.new.bytes }
+    ensures lined { Lined bytes.now text.old.bytes.now text.old.end text.new.bytes.now text.new.end }
 {
     let kind = bytes[0];
     let start = numbers::number_at(bytes, 1);
@@ -34,9 +36,10 @@ fn put_line<const N: usize>(text: &mut Text<N>, bytes: &[u8])
 }
 
 // Puts the line of each record of a page, in order, behind a text.
-pub fn put_lines<const N: usize>(text: &mut Text<N>, page: &[u8])
-    requires { Records page.now (length text.old) N }
-    ensures { AllLined page.now text.old text.new }
+pub fn put_lines(text: &mut Text, page: &[u8])
+    requires { Records page.now text.old.end (length text.old.bytes.now) }
+    ensures same { Same text.old.bytes text.new.bytes }
+    ensures lined { AllLined page.now text.old.bytes.now text.old.end text.new.bytes.now text.new.end }
 {
     let mut rest = page;
     while let Some(kind) = rest.first() {

@@ -27,7 +27,8 @@ fn read_full<R: Read>(reader: &mut R, input: &mut [u8]) -> io::Result<usize>
 fn main(rt: HostRuntime) -> io::Result<()> {
     let mut input = [0u8; 65538];
     let got = read_full(&mut rt.stdin(), &mut input)?;
-    let mut text = Text::<524544>::new();
+    let mut buffer = [0u8; 524544];
+    let mut text = Text::at(&mut buffer, 0);
     listing::listing(&input[..got], &mut text);
     rt.write_all(text.bytes())
 }

@@ -1,9 +1,10 @@
 -- The text of a listing (document 01, "The listing program").
 -- Assumes nothing.
-use Rattle.std.specs.Prelude.{◌≡◌, cond, List, [], ◌∷◌, ◌++◌, ℕ, zero, suc, ◌*◌, ltb, length}
+use Rattle.std.specs.Prelude.{◌≡◌, cond, List, [], ◌∷◌, ℕ, zero, suc, ◌*◌, ltb, length}
 use Rattle.reading.specs.Reading.{Item, Reading}
 use Rattle.channel.specs.Frames.{Capture, capture_of, Frame, rules, beginning}
 use Rattle.call.specs.Call.{terms_by}
+use Rattle.text.specs.Text.{Put}
 use Rattle.line.specs.Line.{refusal_line}
 use Rattle.lines.specs.Lines.{lines_of}
 
@@ -29,8 +30,8 @@ abbrev pub Listing : List ℕ → List ℕ → Type 0
 Listing [] text = text ≡ refusal_line 1
 Listing (direction ∷ capture) text = Text capture direction text
 
--- such a text is put behind another
-pub record Listed (Is : List ℕ → Type 0) (before after : List ℕ) : Type 0 where
+-- such a text is put into a buffer at a place, and ends at another; all other bytes are as they were
+pub record Listed (Is : List ℕ → Type 0) (before : List ℕ) (at : ℕ) (after : List ℕ) (end : ℕ) : Type 0 where
   pub text : List ℕ
   pub is : Is text
-  pub put : after ≡ before ++ text
+  pub put : Put before at text after end

@@ -2,16 +2,18 @@
 #![tactic(auto)]
 
 ghost use Rattle.std.specs.Prelude.{◌+◌, ◌≤◌, length};
+ghost use Rattle.text.specs.Text.{Same};
 ghost use Rattle.listing.specs.Listing.{Text, Listing, Listed};
 
 use call::{CursorNumbers, PageRequest, Refusal, TermNumbers};
 
 // Puts a line for each item of a capture behind a text, asking for each page with the cursor that the last answered, or the line of the refusal alone. There is
-// room for as many bytes as a capture may have bits, and 256 more: that is enough for every reading. (No count ends the loop: each request
-// needs the cursor last answered.)
-fn list<const N: usize>(capture: &[u8], direction: u8, text: &mut text::Text<N>)
-    requires { (length capture.now ≤ 65538) × (length text.old + 524544 ≤ N) }
-    ensures { Listed (Text capture.now direction) text.old text.new }
+// room for as many bytes as a capture may have bits, and 256 more: that is enough for every reading. A refusal is that of the first page, so the text is still as
+// it was when the line of one is put. (No count ends the loop: each request needs the cursor last answered.)
+fn list(capture: &[u8], direction: u8, text: &mut text::Text)
+    requires { (length capture.now ≤ 65538) × (text.old.end + 524544 ≤ length text.old.bytes.now) }
+    ensures same { Same text.old.bytes text.new.bytes }
+    ensures listed { Listed (Text capture.now direction) text.old.bytes.now text.old.end text.new.bytes.now text.new.end }
 {
     let n = 8 * capture.len() as u64;
     let table = Some(dplaces::table());
@@ -50,9 +52,10 @@ fn list<const N: usize>(capture: &[u8], direction: u8, text: &mut text::Text<N>)
 
 // Puts the listing of some input, one byte of direction and then the capture, behind a text. Input without a direction byte is refused with 1, as a direction
 // above 1 is.
-pub fn listing<const N: usize>(input: &[u8], text: &mut text::Text<N>)
-    requires { (length input.now ≤ 65538) × (length text.old + 524544 ≤ N) }
-    ensures { Listed (Listing input.now) text.old text.new }
+pub fn listing(input: &[u8], text: &mut text::Text)
+    requires { (length input.now ≤ 65538) × (text.old.end + 524544 ≤ length text.old.bytes.now) }
+    ensures same { Same text.old.bytes text.new.bytes }
+    ensures listed { Listed (Listing input.now) text.old.bytes.now text.old.end text.new.bytes.now text.new.end }
 {
     match input {
         [] => line::put_refusal(text, Refusal::NotARequest.number()),

@@ -4,11 +4,14 @@ use mathlib.Core.Path.{◌≡◌, refl}
 use mathlib.Core.Bool.{Bool, true, false, cond}
 use mathlib.Core.List.{List, [], ◌∷◌, ◌++◌}
 use Prim.Native.Nat.{ℕ, zero, suc, ◌+◌, ◌*◌}
+use native.Mathlib.Numerals.{add-one}
 use native.Mathlib.Omega.{arith}
 use lib.Dec.{ltb}
 use lib.ListN.{length, take, drop, length-append, length-drop}
 use lib.Seq.{take_all}
 use Rattle.channel.specs.declared.Kind.{Kind}
+use Rattle.text.specs.Text.{Put}
+use Rattle.text.proofs.TextLaws.{put-put}
 use Rattle.cells.specs.declared.Cell.{Cell}
 use Rattle.cells.specs.declared.Cell.TheVariants.{Zero, One, C, Xc, Crc, D, Prime, T, Tail}
 use Rattle.std.specs.Prelude.{Option, None, Some}
@@ -52,6 +55,12 @@ octet-long k octet =
     omega
     (arith, length-append (drop 3 (lettered_of 32 32 (octet + 1)) ++ names_of k octet 8) (10 ∷ []), length-append (drop 3 (lettered_of 32 32 (octet + 1))) (names_of k octet 8), number-long octet, names_long k octet 8)
 
--- the number of an octet, of which two columns are put
-pub number_put : (octet : ℕ) → take 2 (drop 3 (lettered_of 32 32 (octet + 1))) ≡ drop 3 (lettered_of 32 32 (octet + 1))
-number_put octet = take_all 2 (drop 3 (lettered_of 32 32 (octet + 1))) (omega (arith, number-long octet))
+-- the number of an octet is put, of which two columns are wanted
+pub number_put : {before after number : List ℕ} {at end : ℕ} (octet : ℕ) → number ≡ lettered_of 32 32 (octet + 1) → Put before at (take 2 (drop 3 number)) after end
+    → Put before at (drop 3 (lettered_of 32 32 (octet + 1))) after end
+number_put octet e p = rw (e, take_all 2 (drop 3 (lettered_of 32 32 (octet + 1))) (omega (arith, number-long octet))) at p
+
+-- one name more
+pub names_next : {before out after called : List ℕ} {at m end : ℕ} (k : Kind) (octet i : ℕ) → Put before at (names_of k octet i) out m → called ≡ name_of (cell_of k (8 * octet + i))
+    → Put out m called after end → Put before at (names_of k octet (i + 1)) after end
+names_next k octet i p e q = rw add-one (put-put p (rw e at q))

@@ -1,7 +1,8 @@
 // The names of a frame's bits as text, and the line of an octet.
 #![tactic(auto)]
 
-ghost use Rattle.std.specs.Prelude.{◌≡◌, ◌++◌, ◌+◌, ◌≤◌, ◌<◌, length};
+ghost use Rattle.std.specs.Prelude.{◌≡◌, ◌+◌, ◌≤◌, ◌<◌, length};
+ghost use Rattle.text.specs.Text.{Put, Same};
 ghost use Rattle.names.specs.Names.{lettered_of, name_of, octet_of};
 
 use cells::Cell;
@@ -51,9 +52,10 @@ fn name(c: Option<Cell>) -> [u8; 5]
 }
 
 // Puts the line of an octet of a kind behind a text: the octet's number in two columns, and what its eight bits are called.
-pub fn put_octet<const N: usize>(text: &mut Text<N>, k: Kind, octet: u8)
-    requires { (octet < 20) × (length text.old + 43 ≤ N) }
-    ensures { text.new ≡ text.old ++ octet_of k octet }
+pub fn put_octet(text: &mut Text, k: Kind, octet: u8)
+    requires { (octet < 20) × (text.old.end + 43 ≤ length text.old.bytes.now) }
+    ensures same { Same text.old.bytes text.new.bytes }
+    ensures put { Put text.old.bytes.now text.old.end (octet_of k octet) text.new.bytes.now text.new.end }
 {
     let number = lettered(b' ', b' ', octet as usize + 1);
     text.put(&number[3..]);

@@ -1,23 +1,33 @@
 -- `drawing::draw` meets its contract.
 -- Assumes nothing.
-use mathlib.Core.Path.{◌≡◌, ap}
-use mathlib.Core.List.{append_assoc}
+use mathlib.Core.Path.{◌≡◌}
 use native.Mathlib.Omega.{arith}
-use lib.ListN.{length, length-append}
-use Rattle.names.specs.Names.{octet_of}
-use Rattle.names.proofs.NameLaws.{octet-long}
-use Rattle.drawing.specs.Drawing.{heading_of, octets_of}
-use Rattle.drawing.proofs.DrawingLaws.{octets_next}
+use lib.ListN.{length-append}
+use Rattle.text.proofs.TextLaws.{put-put, same_same}
+use Rattle.drawing.specs.Drawing.{octets_of, heading_of}
+use Rattle.drawing.proofs.DrawingLaws.{octets-long, heading_short, octets-next}
 use Rattle.drawing.proofs.draw.Goals as goal
 
-pub loop-octet-preserved : goal.loop-octet-preserved
-loop-octet-preserved g c =
-    let k = c.args.k in
+pub put_octet-requires : goal.put_octet-requires
+put_octet-requires c =
     let l = c.loop-octet in
-    let p = c.put_octet in
-    (rw (p.ensures, l.invariant.0) (octets_next c.put_heading.new.text k l.octet), omega (arith, ap length p.ensures, length-append l.text (octet_of k l.octet), octet-long k l.octet))
+    let h = c.put_heading.ensures in
+    (omega arith, omega (arith, c.requires, h.upper_bound, h.same.long, l.invariant.0.ends, l.invariant.1.long, octets-long c.args.k l.octet))
 
-pub returns-clause-put : goal.returns-clause-put
-returns-clause-put g c =
-    let all : c.loop-octet.octet ≡ 20 = omega arith in
-    rw (c.loop-octet.invariant.0, all, c.put_heading.ensures.put) (append_assoc c.args.text.now (heading_of c.args.k c.args.title.now) (octets_of c.args.k 20))
+pub loop-octet-preserved : goal.loop-octet-preserved
+loop-octet-preserved c =
+    let l = c.loop-octet in
+    let p = c.put_octet.ensures in
+    (octets-next c.args.k l.octet l.invariant.0 p.put, same_same l.invariant.1 p.same)
+
+pub returns : goal.returns
+returns c =
+    let a = c.args in
+    let l = c.loop-octet in
+    let all : l.octet ≡ 20 = omega arith in
+    let drawn = put-put c.put_heading.ensures.put (rw all at l.invariant.0) in
+    record {
+      same = same_same c.put_heading.ensures.same l.invariant.1;
+      upper_bound = omega (arith, drawn.ends, length-append (heading_of a.k a.title.now) (octets_of a.k 20), heading_short a.k a.title.now, octets-long a.k 20);
+      put = drawn;
+    }

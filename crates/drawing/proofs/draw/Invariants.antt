@@ -1,11 +1,10 @@
--- `drawing::draw` meets its contract. The loop's invariant: the lines of the first octets are put, 43 columns each.
+-- `drawing::draw` meets its contract. The loop's invariant: the lines of the first octets stand behind the heading.
 -- Assumes nothing.
-use mathlib.Core.Path.{◌≡◌}
-use mathlib.Core.List.{◌++◌}
-use Prim.Native.Nat.{◌+◌, ◌*◌}
-use lib.ListN.{length}
+use Rattle.text.specs.Text.{Put, Same}
 use Rattle.drawing.specs.Drawing.{octets_of}
 use Rattle.drawing.proofs.draw.Given as goal
 
 abbrev pub invariant-loop-octet : goal.invariant-loop-octet
-invariant-loop-octet g l = (l.text ≡ l.initial.text ++ octets_of l.k l.octet) × (length l.text ≡ length l.initial.text + 43 * l.octet)
+invariant-loop-octet l =
+    Put l.initial.text.bytes.now l.initial.text.end (octets_of l.k l.octet) l.text.bytes.now l.text.end
+    × Same l.initial.text.bytes l.text.bytes

@@ -2,11 +2,13 @@
 -- items whose lines are not.
 -- Assumes nothing.
 use lib.ListN.{length}
+use Rattle.text.specs.Text.{Same}
 use Rattle.lines.proofs.RecordLaws.{AllLeft}
 use Rattle.lines.proofs.put_lines.Given as goal
 
 abbrev pub invariant-loop-kind : goal.invariant-loop-kind
-invariant-loop-kind g l = AllLeft l.page l.initial.text l.text l.rest
+invariant-loop-kind l =
+    AllLeft l.page l.initial.text.bytes.now l.initial.text.end l.text.bytes.now l.text.end l.rest × Same l.initial.text.bytes l.text.bytes
 
 abbrev pub decreases-loop-kind : goal.decreases-loop-kind
-decreases-loop-kind g l = length l.rest
+decreases-loop-kind l = length l.rest

@@ -3,11 +3,14 @@
 use mathlib.Core.Path.{◌≡◌}
 use Prim.Native.Nat.{◌-◌}
 use lib.ListN.{length}
+use Rattle.text.specs.Text.{Same}
 use Rattle.listing.proofs.ListLaws.{Ongoing}
 use Rattle.listing.proofs.list.Given as goal
 
 abbrev pub invariant-loop-table : goal.invariant-loop-table
-invariant-loop-table g l = Ongoing l.capture l.direction l.cursor l.initial.text l.text × (length l.buffer ≡ 4096)
+invariant-loop-table l =
+    Ongoing l.capture l.direction l.cursor l.initial.text.bytes.now l.initial.text.end l.text.bytes.now l.text.end × (length l.buffer ≡ 4096)
+    × Same l.initial.text.bytes l.text.bytes
 
 abbrev pub decreases-loop-table : goal.decreases-loop-table
-decreases-loop-table g l = l.n - l.cursor.position
+decreases-loop-table l = l.n - l.cursor.position

@@ -1,11 +1,10 @@
--- `names::put_octet` meets its contract. The loop's invariant: the names of the octet's first i bits are put, five columns each.
+-- `names::put_octet` meets its contract. The loop's invariant: the names of the octet's first i bits are put.
 -- Assumes nothing.
-use mathlib.Core.Path.{◌≡◌}
-use mathlib.Core.List.{◌++◌}
-use Prim.Native.Nat.{◌+◌, ◌*◌}
-use lib.ListN.{length}
+use Rattle.text.specs.Text.{Put, Same}
 use Rattle.names.specs.Names.{names_of}
 use Rattle.names.proofs.put_octet.Given as goal
 
 abbrev pub invariant-loop-i : goal.invariant-loop-i
-invariant-loop-i g l = (l.text ≡ l.initial.text ++ names_of l.k l.octet l.i) × (length l.text ≡ length l.initial.text + 5 * l.i)
+invariant-loop-i l =
+    Put l.initial.text.bytes.now l.initial.text.end (names_of l.k l.octet l.i) l.text.bytes.now l.text.end
+    × Same l.initial.text.bytes l.text.bytes
