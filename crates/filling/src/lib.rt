@@ -45,7 +45,8 @@ pub fn fill(
         if buffer.len() - page.bytes < size {
             return page;
         }
-        record::put(&mut buffer[page.bytes..], &i, &mut plans);
+        record::ready(&mut plans, &i);
+        record::put(&mut buffer[page.bytes..], &i, &plans);
         page = Counted {
             items: page.items + 1,
             bytes: page.bytes + size,

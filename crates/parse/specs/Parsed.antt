@@ -4,6 +4,8 @@ use Rattle.std.specs.Prelude.{◌≡◌, cond, List, [], ◌∷◌, ℕ, ◌+◌
 use Rattle.channel.specs.declared.Kind.{Kind}
 use Rattle.channel.specs.declared.Kind.TheVariants.{Speech, Data, Om, Configuration, NoSpeech, Lower, Amr670, Amr740}
 use Rattle.channel.specs.Record.{number_at, d_length}
+use Rattle.plans.specs.declared.Plans.{Plans}
+use Rattle.plans.specs.Made.{Made}
 use Rattle.item.specs.declared.Frame.{Frame}
 use Rattle.octets.specs.Built.{octets_by}
 
@@ -35,3 +37,7 @@ pub record RecordBy (bytes : List ℕ) (r : Option Frame) : Type 0 where
   pub is : r ≡ record_from bytes
   pub start_fits : IfSome r (λ f. f.start < 4294967296)
   pub tail_fits : IfSome r (λ f. f.tail < 4294967296)
+
+-- the plan of a frame's kind is made; where there is no frame, none is asked for
+abbrev pub PlanFor : Option Frame → Plans → Type 0
+PlanFor r plans = IfSome r (λ f. Made plans f.kind)

@@ -2,7 +2,8 @@
 #![tactic(auto)]
 
 ghost use Rattle.std.specs.Prelude.{◌≡◌, ◌<◌, length};
-ghost use Rattle.parse.specs.Parsed.{kind_by, RecordBy};
+ghost use Rattle.plans.specs.Made.{StillMade};
+ghost use Rattle.parse.specs.Parsed.{kind_by, RecordBy, PlanFor};
 
 use channel::Kind;
 use item::Frame;
@@ -27,10 +28,10 @@ fn kind_by(number: u8) -> Option<Kind>
 }
 
 // The frame whose record is in front of some bytes, by what they say: none where the kind is unknown or the record is cut short; else the frame of that
-// record if it is sound at all.
+// record if it is sound at all. The plan of its kind is made where it is not made yet.
 pub fn record_by(part: &[u8], plans: &mut Plans) -> Option<Frame>
     requires { 0 < length part.now }
-    ensures { RecordBy part.now result }
+    ensures { RecordBy part.now result × PlanFor result plans.new × StillMade plans.old plans.new }
 {
     let kind = kind_by(part[0])?;
     if part.len() < record::frame_size(kind) {

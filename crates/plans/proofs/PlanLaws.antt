@@ -8,7 +8,9 @@ use native.Mathlib.Decide.{ℕ_discrete}
 use native.Mathlib.Omega.{arith}
 use lib.ListN.{length, get_or, set, take, drop, length-set}
 use lib.Seq.{get_or-set_same, get_or-set_other}
-use lib.Dec.{lit<}
+use lib.Dec.{lit<, eqb}
+use borrow.Author.Tests.{eq-eqb, ne_eqb}
+use mathlib.Core.Bool.{cond}
 use Rattle.channel.specs.declared.Kind.{Kind}
 use Rattle.channel.specs.declared.Kind.TheVariants.{Speech, Data, Om, Configuration, NoSpeech, Lower, Amr670, Amr740}
 use Rattle.channel.specs.Kinds.{kind_no}
@@ -55,6 +57,13 @@ planning_odd ps entries from to j some p =
           (λ (s : i ≡ j). absurd (out (omega (arith, p.from_to, p.within)) (omega arith)))
           (λ (s : ¬ (i ≡ j)). p.others i (omega arith) (λ x y. out x (omega arith)));
     }
+
+-- the one or the other, as `odd_bytes` has it
+pub planning_none : (ps : List ℕ) (entries : List Entry) (from to j : ℕ) → Planning ps entries from to j → Planning ps entries (cond (eqb from to) j from) (j + 1) (j + 1)
+planning_none ps entries from to j p =
+    by_cases (ℕ_discrete from to)
+    (λ (s : from ≡ to). rw (eq-eqb from to s) (planning_first ps entries from to j s p))
+    (λ (s : ¬ (from ≡ to)). rw (ne_eqb from to s) (planning_odd ps entries from to j s p))
 
 -- the whole plan
 pub planning_all : (ps : List ℕ) (entries : List Entry) (from to j : ℕ) → j ≡ (length ps + 7) / 8 → Planning ps entries from to j → PlanOf ps entries from to

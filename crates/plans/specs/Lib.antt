@@ -1,2 +1,3 @@
 pub mod Plan
 pub mod Kept
+pub mod Made

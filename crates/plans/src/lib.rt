@@ -3,7 +3,7 @@
 
 mod one_kind;
 
-ghost use Rattle.std.specs.Prelude.{◌≡◌, ◌-◌, ◌<◌, length, IsSome, Some, None, slice_index_or, slice_set};
+ghost use Rattle.std.specs.Prelude.{◌≡◌, ◌-◌, ◌<◌, length, Some, slice_set};
 ghost use Rattle.channel.specs.Kinds.{kind_no};
 ghost use Rattle.plans.specs.Kept.{Kept};
 
@@ -53,34 +53,48 @@ fn place_of(k: Kind) -> usize
 }
 
 impl Plans {
-    // Makes the plan of a kind, if it is not made yet.
-    fn ready(&mut self, k: Kind)
-        ensures { IsSome (slice_index_or self.new.made.plans (kind_no k - 1) None) }
+    ghost use Rattle.std.specs.Prelude.{IsNone};
+    ghost use Rattle.std.specs.Borrow.{sem};
+    ghost use Rattle.plans.specs.Made.{plan_of, Made, MadeMore, RestsMade};
+
+    // Makes the plan of a kind, which is not made yet. (Written out where it is called, the room of the plan would be cleared for each frame.)
+    #[cold]
+    #[inline(never)]
+    fn make(&mut self, k: Kind)
+        requires { IsNone (plan_of self.old k) }
+        ensures { MadeMore k self.old self.new }
     {
         let at = place_of(k);
+        let plan = Plan::new(self.table, k);
+        self.made.keep(at, plan);
+    }
+
+    // Makes the plan of a kind, if it is not made yet. Those that are made stay made.
+    pub fn ready(&mut self, k: Kind)
+        ensures { MadeMore k self.old self.new }
+    {
         let made = &self.made.plans[..];
-        if made[at].is_none() {
-            let plan = Plan::new(self.table, k);
-            self.made.keep(at, plan);
+        if made[place_of(k)].is_none() {
+            self.make(k);
         }
     }
 
     // The plan of a kind that is made.
-    fn at(&self, k: Kind) -> &Plan
-        requires { IsSome (slice_index_or self.now.made.plans (kind_no k - 1) None) }
+    pub fn at(&self, k: Kind) -> &Plan
+        requires { Made self.now k }
         ensures { result.now.kind ≡ k }
     {
-        let at = place_of(k);
         let made = &self.made.plans[..];
-        match &made[at] {
+        match &made[place_of(k)] {
             Some(plan) => plan,
             None => unreachable!(),
         }
     }
 
-    // The plan of a kind, made when it is first asked for.
+    // The plan of a kind, made when it is first asked for. Those that are made stay made.
     pub fn of(&mut self, k: Kind) -> &Plan
-        ensures { result.now.kind ≡ k }
+        ensures* stays { sem 𝓛 (RestsMade self.entry k) }
+        ensures value { result.now.kind ≡ k }
     {
         self.ready(k);
         self.at(k)

@@ -6,6 +6,8 @@ ghost use Rattle.bits.specs.Bit.{bit_at};
 ghost use Rattle.channel.specs.Control.{control, extended};
 ghost use Rattle.channel.specs.Record.{d_bytes, wide, d_length, size_of, record_of};
 ghost use Rattle.item.specs.Item.{item_of};
+ghost use Rattle.plans.specs.Made.{StillMade};
+ghost use Rattle.record.specs.Wanted.{MadeFor};
 
 use channel::Kind;
 use coding::places;
@@ -89,14 +91,23 @@ pub fn put_frame(out: &mut [u8], frame: &Frame, plan: &Plan)
     put_d(out, &frame.octets, plan);
 }
 
-// The record of an item, at the front of a lent part; the rest of the part is unchanged. The plan that it wants is made at its first use.
+// Makes the plan that the record of an item wants. Those that are made stay made.
+pub fn ready(plans: &mut Plans, i: &Item)
+    ensures { MadeFor i.now plans.new × StillMade plans.old plans.new }
+{
+    if let Item::Frame(frame) = i {
+        plans.ready(frame.kind);
+    }
+}
+
+// The record of an item, at the front of a lent part; the rest of the part is unchanged.
 #[tactic(auto, unfolding(channel::specs::Record::record_of))]
-pub fn put(out: &mut [u8], i: &Item, plans: &mut Plans)
-    requires { size_of (item_of i.now) ≤ length out.old }
+pub fn put(out: &mut [u8], i: &Item, plans: &Plans)
+    requires { (size_of (item_of i.now) ≤ length out.old) × MadeFor i.now plans.now }
     ensures { out.new ≡ record_of (item_of i.now) ++ drop (size_of (item_of i.now)) out.old }
 {
     match i {
-        Item::Frame(frame) => put_frame(out, frame, plans.of(frame.kind)),
+        Item::Frame(frame) => put_frame(out, frame, plans.at(frame.kind)),
         Item::Gap { start, length } => put_front(out, 0, *start, *length),
     }
 }

@@ -22,7 +22,7 @@ returns-in_default c =
     let a = c.args in
     let l = c.loop-rest in
     λ t c' fs taken.
-    absurd (put-sound t (8 * length a.buffer.now) c' a.records.now fs a.buffer.now l.rest.now l.buffer (l.invariant.1 t c' fs taken) (omega (arith, eqb-false _ _ (sym c.is_empty.ensures ∙ c.loop-rest-test.true))) (record_none _ c.in_default.ensures t))
+    absurd (put-sound t (8 * length a.buffer.now) c' a.records.now fs a.buffer.now l.rest.now l.buffer (l.invariant.1 t c' fs taken) (omega (arith, eqb-false _ _ (sym c.is_empty.ensures ∙ c.loop-rest-test.true))) (record_none _ c.in_default.ensures.0 t))
 
 pub put_frame-requires : goal.put_frame-requires
 put_frame-requires c =
@@ -30,7 +30,7 @@ put_frame-requires c =
     let l = c.loop-rest in
     let f = c.in-Some.f in
     let more = eqb-false _ _ (sym c.is_empty.ensures ∙ c.loop-rest-test.true) in
-    rw l.invariant.0 ((next_fits (8 * length a.buffer.now) a.records.now a.buffer.now l.rest.now l.buffer c.requires.0 l.invariant.1 (frame_of f) (omega arith) (record_is _ f c.in-Some.ensures)).0, c.requires.2)
+    rw l.invariant.0 ((next_fits (8 * length a.buffer.now) a.records.now a.buffer.now l.rest.now l.buffer c.requires.0 l.invariant.1 (frame_of f) (omega arith) (record_is _ f c.in-Some.ensures.0)).0, c.requires.2)
 
 pub slice_bounds-rest-count : goal.slice_bounds-rest-count
 slice_bounds-rest-count c =
@@ -38,7 +38,7 @@ slice_bounds-rest-count c =
     let l = c.loop-rest in
     let f = c.in-Some.f in
     let more = eqb-false _ _ (sym c.is_empty.ensures ∙ c.loop-rest-test.true) in
-    omega (arith, c.frame_size.ensures, (next_fits (8 * length a.buffer.now) a.records.now a.buffer.now l.rest.now l.buffer c.requires.0 l.invariant.1 (frame_of f) (omega arith) (record_is _ f c.in-Some.ensures)).1)
+    omega (arith, c.frame_size.ensures, (next_fits (8 * length a.buffer.now) a.records.now a.buffer.now l.rest.now l.buffer c.requires.0 l.invariant.1 (frame_of f) (omega arith) (record_is _ f c.in-Some.ensures.0)).1)
 
 pub slice_bounds-rest-start : goal.slice_bounds-rest-start
 slice_bounds-rest-start c =
@@ -46,7 +46,7 @@ slice_bounds-rest-start c =
     let l = c.loop-rest in
     let f = c.in-Some.f in
     let more = eqb-false _ _ (sym c.is_empty.ensures ∙ c.loop-rest-test.true) in
-    omega (arith, c.frame_size.ensures, (next_fits (8 * length a.buffer.now) a.records.now a.buffer.now l.rest.now l.buffer c.requires.0 l.invariant.1 (frame_of f) (omega arith) (record_is _ f c.in-Some.ensures)).1)
+    omega (arith, c.frame_size.ensures, (next_fits (8 * length a.buffer.now) a.records.now a.buffer.now l.rest.now l.buffer c.requires.0 l.invariant.1 (frame_of f) (omega arith) (record_is _ f c.in-Some.ensures.0)).1)
 
 pub loop-rest-preserved : goal.loop-rest-preserved
 loop-rest-preserved c =
@@ -57,7 +57,7 @@ loop-rest-preserved c =
       put.auto.buffer ∙ l.invariant.0,
       λ t c' fs taken.
           subst (λ (b : List ℕ). Putting t (8 * length a.buffer.now) c' a.records.now fs a.buffer.now b put.new.buffer) (sym (tail-is c.frame_size.result l.rest.now ∙ ap (λ (n : ℕ). drop n l.rest.now) c.frame_size.ensures))
-          ((put_next t (8 * length a.buffer.now) c' a.records.now fs a.buffer.now l.rest.now l.buffer (l.invariant.1 t c' fs taken) (frame_of f) (omega (arith, eqb-false _ _ (sym c.is_empty.ensures ∙ c.loop-rest-test.true))) (record_is _ f c.in-Some.ensures)).turned put.new.buffer put.ensures),
+          ((put_next t (8 * length a.buffer.now) c' a.records.now fs a.buffer.now l.rest.now l.buffer (l.invariant.1 t c' fs taken) (frame_of f) (omega (arith, eqb-false _ _ (sym c.is_empty.ensures ∙ c.loop-rest-test.true))) (record_is _ f c.in-Some.ensures.0)).turned put.new.buffer put.ensures),
     )
 
 pub returns : goal.returns

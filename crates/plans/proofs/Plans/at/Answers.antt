@@ -7,4 +7,4 @@ pub returns : goal.returns
 returns c =
     let a = c.args in
     let p = c.in-Some.plan in
-    kept_kind a.self.now.made.plans a.k p _ a.self.now.kept c.requires (rw c.place_of-at.ensures at c.index-made-at.is) c.in-Some.is
+    kept_kind a.self.now.made.plans a.k p _ a.self.now.kept c.requires (rw c.place_of.ensures at c.index-made-place_of.is) c.in-Some.is

@@ -1,9 +1,9 @@
--- `plans::Plans::ready` meets its contract: a plan is made once, and kept at its kind's place.
+-- `plans::Plans::make` meets its contract: a plan is kept at its kind's place.
 -- Assumes nothing.
 use mathlib.Core.Path.{◌∙◌, ap}
 use lib.ListN.{length, length-set}
 use Rattle.plans.proofs.PlanLaws.{kept_next}
-use Rattle.plans.proofs.Plans.ready.Goals as goal
+use Rattle.plans.proofs.Plans.make.Goals as goal
 
 pub invariant_of-self : goal.invariant_of-self
 invariant_of-self c =
