@@ -81,7 +81,8 @@ pub fn digit(n: u64) -> u8
     b'0' + (n % 10) as u8
 }
 
-// Puts the digits of a number at the end of twenty bytes, the last digit first, and answers where they begin.
+// Puts the digits of a number at the end of twenty bytes, the last digit first, and answers where they begin. (A function that calls itself on the tens would put
+// each digit into the text by itself.)
 fn spell(n: u64, digits: &mut [u8]) -> usize
     requires { length digits.old ≡ 20 }
     ensures { (result ≤ 19) × (drop result digits.new ≡ decimal_of n) }
